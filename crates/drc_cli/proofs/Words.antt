@@ -1,0 +1,16 @@
+-- Short lists of words, by their places.
+use Rattle.std.proofs.Common.{◌≡◌, ◌≤◌, ◌<◌, List, [], ◌∷◌, length, get_or, arith}
+
+pub two_items : {A : Type 0} (xs : List A) (a b : A) → 2 ≤ length xs → length xs < 3 → a ≡ get_or xs 0 a → b ≡ get_or xs 1 b → xs ≡ a ∷ b ∷ []
+two_items [] a b low high e0 e1 = absurd (omega arith)
+two_items (x ∷ []) a b low high e0 e1 = absurd (omega arith)
+two_items (x ∷ y ∷ []) a b low high e0 e1 = cc
+two_items (x ∷ y ∷ z ∷ xs) a b low high e0 e1 = absurd (omega arith)
+
+pub four_items : {A : Type 0} (xs : List A) (a b c d : A) → 4 ≤ length xs → length xs < 5 → a ≡ get_or xs 0 a → b ≡ get_or xs 1 b → c ≡ get_or xs 2 c → d ≡ get_or xs 3 d → xs ≡ a ∷ b ∷ c ∷ d ∷ []
+four_items [] a b c d low high e0 e1 e2 e3 = absurd (omega arith)
+four_items (w ∷ []) a b c d low high e0 e1 e2 e3 = absurd (omega arith)
+four_items (w ∷ x ∷ []) a b c d low high e0 e1 e2 e3 = absurd (omega arith)
+four_items (w ∷ x ∷ y ∷ []) a b c d low high e0 e1 e2 e3 = absurd (omega arith)
+four_items (w ∷ x ∷ y ∷ z ∷ []) a b c d low high e0 e1 e2 e3 = cc
+four_items (w ∷ x ∷ y ∷ z ∷ v ∷ xs) a b c d low high e0 e1 e2 e3 = absurd (omega arith)

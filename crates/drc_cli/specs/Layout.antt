@@ -1,0 +1,261 @@
+-- The first form of a layout: a GDSII stream of one structure, the primary, whose elements are rectangles with an area.
+--
+--     layout    = HEADER BGNLIB LIBNAME UNITS BGNSTR STRNAME { element } ENDSTR ENDLIB
+--     element   = BOUNDARY LAYER DATATYPE XY ENDEL
+--
+-- What each record is stands first, then the grammar by cases on the list of records, then the same grammar by places:
+-- what may stand at a place, and what place follows. The check's layer is one layer number; the layout has the
+-- rectangles of that layer, and no two of them share a point.
+use Rattle.std.specs.Prelude.{◌≡◌, ◌≢◌, ◌⊎◌, ℕ, ◌+◌, ◌-◌, ◌*◌, ◌^◌, ◌==◌, if◌then◌else◌, List, [], ◌∷◌, ◌++◌, length, take, drop, map, filter, slice_get, All, Some, ℤ, pos, negsuc, ◌≤ℤ◌}
+use Rattle.std.specs.Int.{cast_signed, w32}
+use Rattle.byteorder.specs.Endian.{big_number}
+use Rattle.drc_geom.specs.declared.rect.Rect.{Rect}
+use Rattle.drc_geom.specs.Squares.{IsRect}
+use Rattle.drc_geom.specs.Separate.{AreSeparate}
+use Rattle.gds_records.specs.declared.record_type.RecordType.{RecordType}
+use Rattle.gds_records.specs.declared.record_type.RecordType.TheVariants as types
+use Rattle.gds_records.specs.declared.data_form.DataForm.{DataForm}
+use Rattle.gds_records.specs.declared.data_form.DataForm.TheVariants as forms
+use Rattle.gds_records.specs.declared.fault.LayoutKind.{LayoutKind}
+use Rattle.gds_records.specs.declared.fault.LayoutKind.TheVariants as kinds
+use Rattle.gds_records.specs.declared.fault.LayoutRefusal.{LayoutRefusal}
+use Rattle.gds_records.specs.Records.{Item, size_of, spelling, Cuts, end_of, EndsLibrary, IsGoodLength, IsPartial, IsTooLong, IsBadLength}
+use Rattle.gds_records.specs.RecordTypes.{code_of}
+use Rattle.gds_records.specs.DataForms.{form_code_of}
+use Rattle.drc_cli.specs.declared.layout.place.Place.{Place}
+use Rattle.drc_cli.specs.declared.layout.place.Place.TheVariants.{Header, LibraryStart, LibraryName, Units, StructureStart, StructureName, Elements, Layer, DataType, Points, ElementEnd, LibraryEnd, End}
+
+-- ---- What each record is
+
+-- a record of this type, with data of this form
+pub record IsOf (type : RecordType) (form : DataForm) (item : Item) : Type 0 where
+  pub type_byte : item.kind ≡ code_of type
+  pub form_byte : item.form ≡ form_code_of form
+
+abbrev pub IsHeader : Item → Type 0
+IsHeader item = IsOf types.Header forms.TwoByte item × (length item.body ≡ 2)
+
+abbrev pub IsLibraryStart : Item → Type 0
+IsLibraryStart item = IsOf types.BeginLibrary forms.TwoByte item
+
+abbrev pub IsLibraryName : Item → Type 0
+IsLibraryName item = IsOf types.LibraryName forms.Text item
+
+-- a database unit is a thousandth of a user unit and 10^-9 metres: two eight-byte reals
+abbrev pub unit_bytes : List ℕ
+unit_bytes =
+    0x3E ∷ 0x41 ∷ 0x89 ∷ 0x37 ∷ 0x4B ∷ 0xC6 ∷ 0xA7 ∷ 0xF0
+    ∷ 0x39 ∷ 0x44 ∷ 0xB8 ∷ 0x2F ∷ 0xA0 ∷ 0x9B ∷ 0x5A ∷ 0x54 ∷ []
+
+abbrev pub IsUnits : Item → Type 0
+IsUnits item = IsOf types.Units forms.EightByteReal item × (item.body ≡ unit_bytes)
+
+abbrev pub IsStructureStart : Item → Type 0
+IsStructureStart item = IsOf types.BeginStructure forms.TwoByte item
+
+-- the text without its trailing NUL bytes is the name: the name stands first, then NUL bytes alone, and the name
+-- itself doesn't end with one
+pub record IsPadded (name text : List ℕ) : Type 0 where
+  pub first : take (length name) text ≡ name
+  pub nulls : All (λ byte. byte ≡ 0) (drop (length name) text)
+  pub whole : slice_get name (length name - 1) ≢ Some 0
+
+abbrev pub IsStructureName : (primary : List ℕ) → Item → Type 0
+IsStructureName primary item = IsOf types.StructureName forms.Text item × IsPadded primary item.body
+
+abbrev pub IsBoundary : Item → Type 0
+IsBoundary item = IsOf types.Boundary forms.NoData item × (length item.body ≡ 0)
+
+abbrev pub IsLayer : Item → Type 0
+IsLayer item = IsOf types.Layer forms.TwoByte item × (length item.body ≡ 2)
+
+-- the number in the data of LAYER, unsigned: -1 is 65,535
+unfoldable pub number_in : List ℕ → ℕ
+number_in body = big_number 2 body
+
+abbrev pub IsDataType : Item → Type 0
+IsDataType item = IsOf types.DataType forms.TwoByte item × (length item.body ≡ 2)
+
+-- the coordinate at a place in the data of XY: four bytes, two's complement, high byte first
+unfoldable pub coordinate : (place : ℕ) → List ℕ → ℤ
+coordinate place body = cast_signed w32 (big_number 4 (drop (4 * place) body))
+
+-- the coordinates of five points
+abbrev pub coordinates : List ℕ → List ℤ
+coordinates body =
+    coordinate 0 body ∷ coordinate 1 body ∷ coordinate 2 body ∷ coordinate 3 body ∷ coordinate 4 body
+    ∷ coordinate 5 body ∷ coordinate 6 body ∷ coordinate 7 body ∷ coordinate 8 body ∷ coordinate 9 body ∷ []
+
+-- the rectangle between the first and the third point
+abbrev pub rect_in : List ℕ → Rect
+rect_in body = record { x0 = coordinate 0 body; y0 = coordinate 1 body; x1 = coordinate 4 body; y1 = coordinate 5 body }
+
+-- the corners of a rectangle from the lower left one on, counterclockwise, and the first of them again
+abbrev pub corners : Rect → List ℤ
+corners r = r.x0 ∷ r.y0 ∷ r.x1 ∷ r.y0 ∷ r.x1 ∷ r.y1 ∷ r.x0 ∷ r.y1 ∷ r.x0 ∷ r.y0 ∷ []
+
+-- a rectangle within -2^30 to 2^30
+pub record IsInRange (r : Rect) : Type 0 where
+  pub west : negsuc (2 ^ 30 - 1) ≤ℤ r.x0
+  pub south : negsuc (2 ^ 30 - 1) ≤ℤ r.y0
+  pub east : r.x1 ≤ℤ pos (2 ^ 30)
+  pub north : r.y1 ≤ℤ pos (2 ^ 30)
+
+-- five points that are the corners of a rectangle with an area, in range
+pub record IsOutline (body : List ℕ) : Type 0 where
+  pub size : length body ≡ 40
+  pub corners : coordinates body ≡ corners (rect_in body)
+  pub area : IsRect (rect_in body)
+  pub range : IsInRange (rect_in body)
+
+abbrev pub IsPoints : Item → Type 0
+IsPoints item = IsOf types.Points forms.FourByte item × IsOutline item.body
+
+abbrev pub IsElementEnd : Item → Type 0
+IsElementEnd item = IsOf types.EndElement forms.NoData item × (length item.body ≡ 0)
+
+abbrev pub IsStructureEnd : Item → Type 0
+IsStructureEnd item = IsOf types.EndStructure forms.NoData item × (length item.body ≡ 0)
+
+abbrev pub IsLibraryEnd : Item → Type 0
+IsLibraryEnd item = IsOf types.EndLibrary forms.NoData item × (length item.body ≡ 0)
+
+-- ---- The grammar
+
+-- an element: its layer number, its rectangle, and the offset of its XY
+pub record Element : Type 0 where
+  pub number : ℕ
+  pub rect : Rect
+  pub at : ℕ
+
+-- five records are an element
+pub record IsElement (boundary layer kind points end : Item) (element : Element) : Type 0 where
+  pub opens : IsBoundary boundary
+  pub on : IsLayer layer
+  pub typed : IsDataType kind
+  pub drawn : IsPoints points
+  pub closes : IsElementEnd end
+  pub known : element ≡ record { number = number_in layer.body; rect = rect_in points.body; at = points.at }
+
+-- elements one after the other, then ENDSTR and ENDLIB
+abbrev pub AreElements : List Item → List Element → Type 0
+AreElements (boundary ∷ layer ∷ kind ∷ points ∷ end ∷ items) (element ∷ elements) =
+    IsElement boundary layer kind points end element × AreElements items elements
+AreElements (structure ∷ library ∷ []) [] = IsStructureEnd structure × IsLibraryEnd library
+AreElements items elements = ⊥
+
+-- the records are those of a layout of the first form, which has these elements
+abbrev pub FirstForm : (primary : List ℕ) → List Item → List Element → Type 0
+FirstForm primary (header ∷ library ∷ library_name ∷ units ∷ structure ∷ name ∷ items) elements =
+    IsHeader header × IsLibraryStart library × IsLibraryName library_name × IsUnits units
+    × IsStructureStart structure × IsStructureName primary name × AreElements items elements
+FirstForm primary items elements = ⊥
+
+-- the rectangles of one layer, in the order of the stream
+abbrev pub rects_on : (number : ℕ) → List Element → List Rect
+rects_on number elements = map (λ element. element.rect) (filter (λ element. element.number == number) elements)
+
+-- A layout of these bytes is accepted with these rectangles. What stands behind ENDLIB isn't looked at.
+pub record Accepts (primary : List ℕ) (number : ℕ) (bytes : List ℕ) (rects : List Rect) : Type 0 where
+  pub items : List Item
+  pub elements : List Element
+  pub rest : List ℕ
+  pub cut : Cuts bytes items rest
+  pub form : FirstForm primary items elements
+  pub drawn : rects ≡ rects_on number elements
+  pub separate : AreSeparate rects
+
+-- ---- The grammar by places
+
+-- what may stand at a place
+abbrev pub Stands : (primary : List ℕ) → Place → Item → Type 0
+Stands primary Header item = IsHeader item
+Stands primary LibraryStart item = IsLibraryStart item
+Stands primary LibraryName item = IsLibraryName item
+Stands primary Units item = IsUnits item
+Stands primary StructureStart item = IsStructureStart item
+Stands primary StructureName item = IsStructureName primary item
+Stands primary Elements item = IsBoundary item ⊎ IsStructureEnd item
+Stands primary Layer item = IsLayer item
+Stands primary (DataType number) item = IsDataType item
+Stands primary (Points number) item = IsPoints item
+Stands primary ElementEnd item = IsElementEnd item
+Stands primary LibraryEnd item = IsLibraryEnd item
+Stands primary End item = ⊥
+
+-- the place behind a record that stands at a place
+abbrev pub following : Place → Item → Place
+following Header item = LibraryStart
+following LibraryStart item = LibraryName
+following LibraryName item = Units
+following Units item = StructureStart
+following StructureStart item = StructureName
+following StructureName item = Elements
+following Elements item = if item.kind == code_of types.Boundary then Layer else LibraryEnd
+following Layer item = DataType (number_in item.body)
+following (DataType number) item = Points number
+following (Points number) item = ElementEnd
+following ElementEnd item = Elements
+following LibraryEnd item = End
+following End item = End
+
+-- the element that is known at a record: one counts from its XY on
+abbrev pub drawn_at : Place → Item → List Element
+drawn_at (Points number) item = record { number = number; rect = rect_in item.body; at = item.at } ∷ []
+drawn_at place item = []
+
+-- each record may stand at its place
+abbrev pub AllStand : (primary : List ℕ) → Place → List Item → Type 0
+AllStand primary place [] = Unit {0}
+AllStand primary place (item ∷ items) = Stands primary place item × AllStand primary (following place item) items
+
+-- the place behind the records
+abbrev pub place_after : Place → List Item → Place
+place_after place [] = place
+place_after place (item ∷ items) = place_after (following place item) items
+
+-- the elements of the records
+abbrev pub drawn_from : Place → List Item → List Element
+drawn_from place [] = []
+drawn_from place (item ∷ items) = drawn_at place item ++ drawn_from (following place item) items
+
+-- the elements of records from the start on
+abbrev pub elements_of : List Item → List Element
+elements_of items = drawn_from Header items
+
+-- the records are, as far as they go, those of a layout of the first form
+abbrev pub IsFront : (primary : List ℕ) → List Item → Type 0
+IsFront primary items = AllStand primary Header items
+
+-- and no two rectangles of the layer so far share a point
+pub record IsSound (primary : List ℕ) (number : ℕ) (items : List Item) : Type 0 where
+  pub front : IsFront primary items
+  pub separate : AreSeparate (rects_on number (elements_of items))
+
+-- ---- Refusals
+
+-- the next record is whole, and with it the records are sound no longer
+pub record IsUnsound (primary : List ℕ) (number : ℕ) (items : List Item) (rest : List ℕ) (at : ℕ) : Type 0 where
+  pub item : Item
+  pub more : List ℕ
+  pub whole : rest ≡ spelling item ++ more
+  pub here : item.at ≡ end_of items
+  pub good : IsGoodLength (end_of items) (size_of item)
+  pub unsound : IsSound primary number (items ++ item ∷ []) → ⊥
+  pub offset : at ≡ item.at
+
+-- the fact behind the records for which a layout is refused
+abbrev pub IsNext : LayoutKind → (primary : List ℕ) (number : ℕ) (items : List Item) (rest : List ℕ) (at : ℕ) → Type 0
+IsNext kinds.LayoutTooLong primary number items rest at = (at ≡ end_of items) × IsTooLong (end_of items) rest
+IsNext kinds.BadLength primary number items rest at = (at ≡ end_of items) × IsBadLength (end_of items) rest
+IsNext kinds.Truncated primary number items rest at = (at ≡ end_of items + length rest) × IsPartial (end_of items) rest
+IsNext kinds.NotBuilt primary number items rest at = IsUnsound primary number items rest at
+
+-- A layout of these bytes is refused so: behind sound records, before ENDLIB, this fact comes next.
+pub record Refuses (primary : List ℕ) (number : ℕ) (bytes : List ℕ) (refusal : LayoutRefusal) : Type 0 where
+  pub items : List Item
+  pub rest : List ℕ
+  pub cut : Cuts bytes items rest
+  pub sound : IsSound primary number items
+  pub before_end : EndsLibrary items → ⊥
+  pub next : IsNext refusal.kind primary number items rest refusal.at

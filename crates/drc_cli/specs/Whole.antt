@@ -1,0 +1,27 @@
+-- Pieces that are given whole, in as many calls as it takes. Where a call fails, a front of the piece has gone out.
+use Rattle.std.specs.Prelude.{◌≡◌, ℕ, ◌<◌, List, ◌++◌, length, Result, Ok, Err}
+use Rattle.drc_ports.specs.declared.failed.Failed.{Failed}
+use Rattle.drc_ports.specs.Counts.{one_more}
+use Rattle.drc_ports.specs.Files.{Tally, Contents, HasNow}
+
+-- saying a piece
+abbrev pub say_all_tally : Result (Unit {0}) Failed → Tally → Tally
+say_all_tally (Ok _) old = old
+say_all_tally (Err _) old = record old { say_faults = one_more old.say_faults }
+
+abbrev pub SaysAll : List ℕ → Result (Unit {0}) Failed → Contents → Contents → Type 0
+SaysAll piece (Ok _) old new = new ≡ record old { said = old.said ++ piece }
+SaysAll piece (Err _) old new =
+    (front rest : List ℕ) × (piece ≡ front ++ rest) × (0 < length rest) × (new ≡ record old { said = old.said ++ front })
+
+-- writing a piece behind these bytes of the file being written
+abbrev pub write_all_tally : Result (Unit {0}) Failed → Tally → Tally
+write_all_tally (Ok _) old = old
+write_all_tally (Err _) old = record old { write_faults = one_more old.write_faults }
+
+abbrev pub WritesAll : (bytes piece : List ℕ) → Result (Unit {0}) Failed → Contents → Contents → Type 0
+WritesAll bytes piece (Ok _) old new =
+    HasNow old.target (bytes ++ piece) old.made new.made × (new ≡ record old { made = new.made })
+WritesAll bytes piece (Err _) old new =
+    (front rest : List ℕ) × (piece ≡ front ++ rest) × (0 < length rest)
+    × HasNow old.target (bytes ++ front) old.made new.made × (new ≡ record old { made = new.made })

@@ -1,0 +1,150 @@
+//! Takes the records of a layout one by one, and keeps the rectangles of one layer.
+
+ghost use Rattle.std.specs.Prelude.{◌≡◌, ◌≢◌, ◌<◌, ◌++◌, ℕ, [], List, length, false, IsTrue, IfOk};
+ghost use Rattle.gds_records.specs.Records.{Item};
+ghost use Rattle.gds_records.specs.Stream.{item_of, start_of_stream};
+ghost use Rattle.drc_cli.specs.Layout.{Stands, following, drawn_at, rects_on};
+ghost use Rattle.drc_cli.specs.LayoutReading.{offsets_on, end_of_reading, IsAt, Steps, TakesAll};
+
+use super::outline::rect_in;
+use super::place::Place;
+use drc_geom::Rect;
+use gds_records::{Framer, LayoutFault, LayoutKind, LayoutRefusal, Record};
+use std::alloc::{AllocError, Global};
+
+/// What ended the reading.
+#[derive(Clone, Copy, Debug, PartialEq, Eq)]
+pub enum Stop {
+    /// ENDLIB was taken.
+    Ended,
+    /// The first fact for which the layout is refused, two rectangles that touch left aside.
+    Refused(LayoutRefusal),
+    /// A read failed.
+    ReadFault,
+}
+
+/// What one step did.
+#[derive(Clone, Copy, Debug, PartialEq, Eq)]
+pub enum Step {
+    /// A record was taken.
+    Taken,
+    /// No whole record is left.
+    Wanting,
+    /// The reading has ended.
+    Stopped(Stop),
+}
+
+/// The records so far: what is left of the bytes, the place of the next record, and the rectangles of the layer with
+/// the offsets of their XY.
+#[derive(Drop)]
+pub struct Reader {
+    pub framer: Framer,
+    pub place: Place,
+    pub rects: Vec<Rect>,
+    pub offsets: Vec<u64>,
+}
+
+impl Reader {
+    /// A reader at the start of a layout.
+    pub fn new(alloc: Global) -> Reader
+        ensures framer { result.framer ≡ start_of_stream }
+        ensures place { result.place ≡ Place.Header }
+        ensures rects { result.rects.items ≡ [] }
+        ensures offsets { result.offsets.items ≡ [] }
+    {
+        Reader {
+            framer: Framer::new(alloc),
+            place: Place::Header,
+            rects: Vec::new(alloc),
+            offsets: Vec::new(alloc),
+        }
+    }
+
+    /// Takes all whole records of what was fed, in a layout whose primary has this name, for the layer of this number;
+    /// None where more bytes are wanted.
+    pub fn take_all(&mut self, primary: &[u8], number: u16) -> Result<Option<Stop>, AllocError>
+        ensures reads_none { result ≢ Ok (Some Stop.ReadFault) }
+        ensures taken { (fed : List ℕ) (items : List Item)
+            → IsAt primary.now number fed items self.old.framer self.old.place self.old.rects.items self.old.offsets.items
+            → TakesAll primary.now number fed result self.new.framer self.new.place self.new.rects.items self.new.offsets.items }
+    {
+        loop {
+            match self.step(primary, number)? {
+                Step::Taken => {}
+                Step::Wanting => return Ok(None),
+                Step::Stopped(stop) => return Ok(Some(stop)),
+            }
+        }
+    }
+
+    /// What ends the reading where no more bytes come.
+    pub fn at_end(&self) -> Stop
+        ensures { result ≡ end_of_reading self.now.framer }
+    {
+        match self.framer.end() {
+            Some(refusal) => Stop::Refused(refusal),
+            None => Stop::Ended,
+        }
+    }
+
+    // Takes the next record, if it is whole.
+    fn step(&mut self, primary: &[u8], number: u16) -> Result<Step, AllocError>
+        ensures taken { (fed : List ℕ) (items : List Item)
+            → IsAt primary.now number fed items self.old.framer self.old.place self.old.rects.items self.old.offsets.items
+            → Steps primary.now number fed result self.new.framer self.new.place self.new.rects.items self.new.offsets.items }
+        ensures reads_none { result ≢ Ok (Step.Stopped Stop.ReadFault) }
+        ensures less { result ≡ Ok Step.Taken → length self.new.framer.left < length self.old.framer.left }
+    {
+        match self.framer.take() {
+            Ok(Some(taken)) => {
+                if self.accept(&taken, primary, number)? {
+                    Ok(Step::Taken)
+                } else {
+                    Ok(not_built(taken.at))
+                }
+            }
+            Ok(None) => {
+                if self.framer.ended() {
+                    Ok(Step::Stopped(Stop::Ended))
+                } else {
+                    Ok(Step::Wanting)
+                }
+            }
+            Err(LayoutFault::Refused(refusal)) => Ok(Step::Stopped(Stop::Refused(refusal))),
+            Err(LayoutFault::Memory) => Err(AllocError),
+        }
+    }
+
+    // Moves on behind the record, and keeps its rectangle where it has one on the layer; false where the record may
+    // not stand here.
+    fn accept(&mut self, taken: &Record, primary: &[u8], number: u16) -> Result<bool, AllocError>
+        ensures framer { self.new.framer ≡ self.old.framer }
+        ensures stands { IfOk result (λ stood. IsTrue stood → Stands primary.now self.old.place (item_of taken.now)) }
+        ensures place { IfOk result (λ stood. IsTrue stood → self.new.place ≡ following self.old.place (item_of taken.now)) }
+        ensures rects { IfOk result (λ stood. IsTrue stood
+            → self.new.rects.items ≡ self.old.rects.items ++ rects_on number (drawn_at self.old.place (item_of taken.now))) }
+        ensures offsets { IfOk result (λ stood. IsTrue stood
+            → self.new.offsets.items ≡ self.old.offsets.items ++ offsets_on number (drawn_at self.old.place (item_of taken.now))) }
+        ensures refused { IfOk result (λ stood. stood ≡ false → Stands primary.now self.old.place (item_of taken.now) → ⊥) }
+        ensures same { IfOk result (λ stood. stood ≡ false → self.new ≡ self.old) }
+    {
+        if !self.place.stands(taken, primary) {
+            return Ok(false);
+        }
+        if self.place.is_points_on(number) {
+            self.rects.push(rect_in(&taken.body))?;
+            self.offsets.push(taken.at)?;
+        }
+        self.place = self.place.following(taken);
+        Ok(true)
+    }
+}
+
+fn not_built(at: u64) -> Step
+    ensures { result ≡ Step.Stopped (Stop.Refused (record { at = at; kind = LayoutKind.NotBuilt })) }
+{
+    Step::Stopped(Stop::Refused(LayoutRefusal {
+        at,
+        kind: LayoutKind::NotBuilt,
+    }))
+}
