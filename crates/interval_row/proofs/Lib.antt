@@ -1,0 +1,6 @@
+pub mod Places
+pub mod Splits
+pub mod SamePlaces
+mod Ends
+mod Drawing
+mod Walks
