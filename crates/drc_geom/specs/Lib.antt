@@ -4,3 +4,4 @@ pub mod Runs
 pub mod Separate
 pub mod RunOrder
 pub mod Turns
+pub mod Winding

@@ -139,11 +139,6 @@ run_order_partial = po run_order_total run_order_matches_eq
 
 -- ---- how the code compares
 
-then_assoc : (p q r : Ordering) → ordering_then (ordering_then p q) r ≡ ordering_then p (ordering_then q r)
-then_assoc Less q r = refl
-then_assoc Equal q r = refl
-then_assoc Greater q r = refl
-
 then_under : (p q r : Ordering) → (p ≡ Equal → q ≡ r) → ordering_then p q ≡ ordering_then p r
 then_under Less q r f = refl
 then_under Equal q r f = f refl
@@ -157,10 +152,10 @@ shifted Greater a b c d e h = omega (arith, ints)
 by_high : (a b c d : ℤ) → a ≡ c → int_cmp b d ≡ int_cmp (b -ℤ a) (d -ℤ c)
 by_high a b c d e = int_cmp_is (b -ℤ a) (d -ℤ c) (int_cmp b d) (shifted (int_cmp b d) a b c d e (int_ranks b d))
 
--- the shorter of two runs with one side, line and first column has the lower hi
-pub run_order_is : (a b : Run) (y x r h : Ordering) → y ≡ int_cmp (end_y a.side a.line a.lo) (end_y b.side b.line b.lo) → x ≡ int_cmp (end_x a.side a.line a.lo) (end_x b.side b.line b.lo) → r ≡ nat_cmp (side_rank a.side) (side_rank b.side) → h ≡ int_cmp a.hi b.hi → ordering_then (ordering_then (ordering_then y x) r) h ≡ run_order a b
-run_order_is a b y x r h ey ex er eh =
-    then_assoc (ordering_then y x) r h ∙ then_assoc y x (ordering_then r h)
-    ∙ then_under y _ _ (λ ty. then_under x _ _ (λ tx. then_under r h (int_cmp (length_of a) (length_of b))
-    (λ tr. eh ∙ by_high a.lo a.hi b.lo b.hi (tied_parts a b (sym ey ∙ ty) (sym ex ∙ tx) (sym er ∙ tr)).2)))
-    ∙ cc
+-- of runs whose lower ends lie on one line, with one first column and side, the shorter has the lower hi
+pub run_order_level : (a b : Run) → int_cmp (end_y a.side a.line a.lo) (end_y b.side b.line b.lo) ≡ Equal → ordering_then (int_cmp (end_x a.side a.line a.lo) (end_x b.side b.line b.lo)) (ordering_then (nat_cmp (side_rank a.side) (side_rank b.side)) (int_cmp a.hi b.hi)) ≡ run_order a b
+run_order_level a b ty =
+    then_under (int_cmp (end_x a.side a.line a.lo) (end_x b.side b.line b.lo)) _ _
+    (λ tx. then_under (nat_cmp (side_rank a.side) (side_rank b.side)) (int_cmp a.hi b.hi) (int_cmp (length_of a) (length_of b))
+    (λ tr. by_high a.lo a.hi b.lo b.hi (tied_parts a b ty tx tr).2))
+    ∙ sym (ap (λ y. ordering_then y (ordering_then (int_cmp (end_x a.side a.line a.lo) (end_x b.side b.line b.lo)) (ordering_then (nat_cmp (side_rank a.side) (side_rank b.side)) (int_cmp (length_of a) (length_of b))))) ty)

@@ -21,6 +21,7 @@ mod separate;
 mod tests;
 mod turn;
 mod unit;
+mod winding;
 
 pub use name::Name;
 pub use point::Pt;
@@ -29,3 +30,4 @@ pub use run::{Run, run_cmp};
 pub use separate::boundary_is_sides;
 pub use turn::Turn;
 pub use unit::{Side, Unit};
+pub use winding::outline_winds_round_its_squares;

@@ -1,6 +1,6 @@
 ghost use Rattle.std.specs.Prelude.{◌≡◌, refl};
-ghost use Rattle.std.specs.Ordering.{as_partial_cmp};
-ghost use Rattle.drc_geom.specs.Runs.{end_x, end_y, run_order};
+ghost use Rattle.std.specs.Ordering.{as_partial_cmp, int_cmp, nat_cmp, ordering_then};
+ghost use Rattle.drc_geom.specs.Runs.{end_x, end_y, run_order, side_rank};
 ghost use Rattle.drc_geom.specs.RunOrder.{run_order_matches_eq, run_order_partial, run_order_total};
 
 use crate::unit::Side;
@@ -66,10 +66,20 @@ impl PartialOrd for Run {
 pub fn run_cmp(a: &Run, b: &Run) -> Ordering
     ensures { result ≡ run_order a.now b.now }
 {
-    // where all but the lengths agree, the shorter run is the one with the lower hi
-    a.end_y()
-        .cmp(&b.end_y())
-        .then(a.end_x().cmp(&b.end_x()))
-        .then(a.side.rank().cmp(&b.side.rank()))
-        .then(a.hi.cmp(&b.hi))
+    match a.end_y().cmp(&b.end_y()) {
+        Ordering::Equal => cmp_from_end_x(a, b),
+        lower => lower,
+    }
+}
+
+// Run order of runs whose lower ends lie on one line.
+fn cmp_from_end_x(a: &Run, b: &Run) -> Ordering
+    ensures { result ≡ ordering_then (int_cmp (end_x a.now.side a.now.line a.now.lo) (end_x b.now.side b.now.line b.now.lo))
+        (ordering_then (nat_cmp (side_rank a.now.side) (side_rank b.now.side)) (int_cmp a.now.hi b.now.hi)) }
+{
+    match a.end_x().cmp(&b.end_x()) {
+        // where all but the lengths agree, the shorter run is the one with the lower hi
+        Ordering::Equal => a.side.rank().cmp(&b.side.rank()).then(a.hi.cmp(&b.hi)),
+        further_left => further_left,
+    }
 }

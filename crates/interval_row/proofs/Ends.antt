@@ -88,7 +88,7 @@ fewer_begin : (n : ℕ) (b : Bool) → cond b 1 2 + n ≤ 2 + n
 fewer_begin n true = omega arith
 fewer_begin n false = omega arith
 
-all_left : (ss : List Span) → ends_left false ss ≡ length ss + length ss
+pub all_left : (ss : List Span) → ends_left false ss ≡ length ss + length ss
 all_left [] = refl
 all_left (s ∷ ss) = omega arith
 

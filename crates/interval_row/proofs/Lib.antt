@@ -4,3 +4,5 @@ pub mod SamePlaces
 mod Ends
 mod Drawing
 mod Walks
+mod Skipping
+mod Alone

@@ -113,7 +113,7 @@ walk_fewer at i ss j ts e =
       | inr h ↦ let k = fewer_left at j ts h in omega arith
     ]
 
-none_begun : (begun : Option ℤ) → is_some begun ≡ false → begun ≡ None
+pub none_begun : (begun : Option ℤ) → is_some begun ≡ false → begun ≡ None
 none_begun None e = refl
 none_begun (Some lo) e = absurd (true≢false e)
 

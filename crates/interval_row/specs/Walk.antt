@@ -1,9 +1,10 @@
 -- The parts of a walk over the ends of rows: a cursor, which stands in a row at its spans that have not ended, inside
 -- the first of them or before it, and a pen, which has drawn whole spans and may have begun another.
-use Rattle.std.specs.Prelude.{ℤ, ◌<ℤ◌, int_le, Bool, true, false, if◌then◌else◌, Option, None, Some, List, [], ◌∷◌, ◌++◌}
+use Rattle.std.specs.Prelude.{◌≡◌, ◌⊎◌, ℕ, ◌≤◌, ℤ, ◌<ℤ◌, int_le, Bool, true, false, if◌then◌else◌, Option, None, Some, List, [], ◌∷◌, ◌++◌, length, take, drop}
 use Rattle.std.specs.Ordering.{int_eq}
 use Rattle.interval_row.specs.declared.span.Span.{Span}
-use Rattle.interval_row.specs.Rows.{StandsBehind}
+use Rattle.interval_row.specs.declared.operation.Operation.{Operation}
+use Rattle.interval_row.specs.Rows.{StandsBehind, joined}
 
 -- the next end that a cursor comes to
 abbrev pub next_end : Bool → List Span → Option ℤ
@@ -40,3 +41,28 @@ spans_turned on at (Some lo) spans = if on then spans else spans ++ record { lo 
 abbrev pub begun_turned : Bool → ℤ → Option ℤ → Option ℤ
 begun_turned on at None = if on then Some at else None
 begun_turned on at (Some lo) = if on then Some lo else None
+
+-- both cursors went past as many spans, which are the same in both rows and of which the operation keeps nothing
+pub record Skips (op : Operation) (i : Bool) (ss : List Span) (j : Bool) (ts : List Span) (i' : Bool) (ss' : List Span) (j' : Bool) (ts' : List Span) : Type 0 where
+  pub count : ℕ
+  pub same : take count ss ≡ take count ts
+  pub within : (count ≤ length ss) × (count ≤ length ts)
+  pub none : (count ≡ 0) ⊎ ((i ≡ false) × (j ≡ false) × (joined op true true ≡ false))
+  pub inside : (i' ≡ i) × (j' ≡ j)
+  pub left : (ss' ≡ drop count ss) × (ts' ≡ drop count ts)
+
+-- the spans end before a place, which may be wanting
+abbrev pub EndBefore : Option ℤ → List Span → Type 0
+EndBefore None spans = Unit {0}
+EndBefore (Some place) spans = StandsBehind spans place
+
+-- the cursor in the first row went past spans that end before the next end in the second row, and the pen has drawn
+-- them where the operation keeps what the first row alone has
+pub record PassesAlone (op : Operation) (i : Bool) (ss : List Span) (j : Bool) (ts : List Span) (row : List Span) (begun : Option ℤ) (i' : Bool) (ss' : List Span) (row' : List Span) (begun' : Option ℤ) : Type 0 where
+  pub count : ℕ
+  pub within : count ≤ length ss
+  pub none : (count ≡ 0) ⊎ ((i ≡ false) × (j ≡ false) × EndBefore (next_end j ts) (take count ss))
+  pub inside : i' ≡ i
+  pub left : ss' ≡ drop count ss
+  pub drawn : row' ≡ row ++ (if joined op true false then take count ss else [])
+  pub same : begun' ≡ begun

@@ -51,6 +51,15 @@ impl Row {
         Ok(())
     }
 
+    /// Adds spans that lie behind all others with a gap between. Where memory is wanting, nothing changes.
+    pub(crate) fn append(&mut self, spans: &[Span]) -> Result<(), AllocError>
+        requires { IsRow (self.old ++ spans.now) }
+        ensures ok { OnOk result (self.new ≡ self.old ++ spans.now) }
+        ensures err { OnErr result (self.new ≡ self.old) }
+    {
+        self.spans.extend_from_slice(spans)
+    }
+
     /// The places that both rows have. Only want of memory is an error.
     pub fn and(&self, other: &Row) -> Result<Row, AllocError>
         ensures { IfOk result (λ row. (x : ℤ) → has row x ≡ (has self.now x && has other.now x)) }
