@@ -1,0 +1,12 @@
+pub mod Parity
+pub mod Lines
+pub mod Changes
+pub mod Steps
+pub mod SameSquares
+pub mod BandRows
+pub mod SameBands
+pub mod FlipRows
+pub mod BandRise
+pub mod LineFlips
+pub mod LineStarts
+pub mod BandPush

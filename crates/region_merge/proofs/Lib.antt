@@ -1,0 +1,6 @@
+pub mod Fronts
+pub mod NextLine
+pub mod Weaving
+pub mod Drawn
+pub mod Sorting
+pub mod Sweeping
