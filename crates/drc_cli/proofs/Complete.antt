@@ -36,7 +36,7 @@ one_deck_held held check d e p q =
 record RefusesFor (held : Held) (d : Deck) (r : LayoutRefusal) : Type 0 where
   bytes : List ℕ
   is_held : held d.layout ≡ Some bytes
-  refused : Refuses d.primary (input_of d).number bytes r
+  refused : Refuses d.primary bytes r
 
 refuses_for : (held : Held) (check : Check) (d : Deck) (r : LayoutRefusal) → HasDeck held check d → RefusesLayout held check r → RefusesFor held d r
 refuses_for held check d r has refuses =
@@ -48,14 +48,13 @@ layout_not_refused held check d rects r has layout refuses =
     let for_deck = refuses_for held check d r has refuses in
     let same = some_is (held d.layout) for_deck.bytes layout.bytes for_deck.is_held layout.is_held in
     accepted_not_refused d.primary (input_of d).number layout.bytes rects r layout.accepted
-    (subst (λ (bytes : List ℕ). Refuses d.primary (input_of d).number bytes r) same for_deck.refused)
+    (subst (λ (bytes : List ℕ). Refuses d.primary bytes r) same for_deck.refused)
 
 one_layout_refusal : (held : Held) (check : Check) (a b : LayoutRefusal) → RefusesLayout held check a → RefusesLayout held check b → a ≡ b
 one_layout_refusal held check a b p q =
     let other = refuses_for held check p.d b p.has_deck q in
     let same = some_is (held p.d.layout) other.bytes p.bytes other.is_held p.is_held in
-    one_refusal p.d.primary (input_of p.d).number p.bytes a b p.refused
-    (subst (λ (bytes : List ℕ). Refuses p.d.primary (input_of p.d).number bytes b) same other.refused)
+    one_refusal p.d.primary p.bytes a b p.refused (subst (λ (bytes : List ℕ). Refuses p.d.primary bytes b) same other.refused)
 
 -- ---- The answer that is due
 

@@ -1,9 +1,8 @@
 -- Laws of a layout's answer: a stream that is accepted isn't refused, and one that is refused is refused in one way.
-use Rattle.std.proofs.Common.{◌≡◌, ℕ, ◌+◌, inl, inr, List, [], ◌∷◌, ◌++◌, map, refl, sym, ap, subst, ◌∙◌, arith, append_assoc}
-use Rattle.std.specs.List.{flat_map, AllByRecursion}
-use Rattle.std.proofs.lemmas.List.{append-nil, append_cancel_left, map-append}
+use Rattle.std.proofs.Common.{◌≡◌, ℕ, ◌+◌, inl, inr, List, [], ◌∷◌, ◌++◌, refl, sym, ap, subst, ◌∙◌, arith, append_assoc}
+use Rattle.std.specs.List.{flat_map}
+use Rattle.std.proofs.lemmas.List.{append-nil, append_cancel_left}
 use Rattle.drc_geom.specs.declared.rect.Rect.{Rect}
-use Rattle.drc_geom.specs.Separate.{AreApart, AreSeparate}
 use Rattle.gds_records.specs.Records.{Item, size_of, spelling, Cuts, end_of, EndsLibrary, ArePlaced, IsGoodLength}
 use Rattle.gds_records.specs.declared.fault.LayoutKind.{LayoutKind}
 use Rattle.gds_records.specs.declared.fault.LayoutKind.TheVariants as kinds
@@ -12,8 +11,8 @@ use Rattle.gds_records.proofs.Cutting.{same_front, cuts-fronts}
 use Rattle.gds_records.proofs.Fronts.{whole_not_partial, whole_not_too_long, whole_not_bad_length, partial_not_too_long, partial_not_bad_length, too_long_not_bad_length}
 use Rattle.drc_cli.specs.declared.layout.place.Place.{Place}
 use Rattle.drc_cli.specs.declared.layout.place.Place.TheVariants.{Header, Elements, Layer, LibraryEnd, End}
-use Rattle.drc_cli.specs.Layout.{Element, IsBoundary, IsStructureEnd, IsLibraryEnd, AreElements, FirstForm, AllStand, place_after, drawn_from, elements_of, number_in, rect_in, rects_on, IsSound, IsNext, IsUnsound, Accepts, Refuses}
-use Rattle.drc_cli.proofs.LayoutPlaces.{on-append, drawn_from-append, all_stand-front, on}
+use Rattle.drc_cli.specs.Layout.{Element, IsBoundary, IsStructureEnd, IsLibraryEnd, AreElements, FirstForm, IsFront, AllStand, place_after, drawn_from, number_in, rect_in, LeavesForm, IsNext, Accepts, Refuses}
+use Rattle.drc_cli.proofs.LayoutPlaces.{all_stand-front}
 use Rattle.drc_cli.proofs.LayoutForms.{boundary_is, structure_end_is}
 use Rattle.drc_cli.proofs.LayoutSplits.{placed-split, cuts-split}
 
@@ -48,7 +47,7 @@ places_from_elements primary (a ∷ b ∷ c ∷ d ∷ []) elements are = absurd 
 places_from_elements primary (a ∷ b ∷ c ∷ d ∷ e ∷ items) [] are = absurd are
 places_from_elements primary (a ∷ b ∷ c ∷ d ∷ e ∷ items) (element ∷ elements) are =
     let rest = places_from_elements primary items elements are.1 in
-    let known : Element = record { number = number_in b.body; rect = rect_in d.body; at = d.at } in
+    let known : Element = record { number = number_in b.body; rect = rect_in d.body } in
     behind_boundary primary a (b ∷ c ∷ d ∷ e ∷ items) (element ∷ elements) are.0.opens (record {
       stand = (are.0.on, (are.0.typed, (are.0.drawn, (are.0.closes, rest.stand))));
       ends = rest.ends;
@@ -85,67 +84,37 @@ form_ends primary (a ∷ b ∷ c ∷ d ∷ []) elements form = absurd form
 form_ends primary (a ∷ b ∷ c ∷ d ∷ e ∷ []) elements form = absurd form
 form_ends primary (a ∷ b ∷ c ∷ d ∷ e ∷ f ∷ items) elements form = elements_end items elements f form.6
 
--- ---- A front of sound records is sound
-
-all_front : (P : Rect → Type 0) (xs ys : List Rect) → AllByRecursion P (xs ++ ys) → AllByRecursion P xs
-all_front P [] ys all = tt
-all_front P (x ∷ xs) ys all = (all.0, all_front P xs ys all.1)
-
-separate_front : (xs ys : List Rect) → AreSeparate (xs ++ ys) → AreSeparate xs
-separate_front [] ys separate = tt
-separate_front (x ∷ xs) ys separate = (all_front (AreApart x) xs ys separate.0, separate_front xs ys separate.1)
-
-rects_on-append : (number : ℕ) (xs ys : List Element) → rects_on number (xs ++ ys) ≡ rects_on number xs ++ rects_on number ys
-rects_on-append number xs ys =
-    ap (map (λ (e : Element). e.rect)) (on-append number xs ys) ∙ map-append (λ (e : Element). e.rect) (on number xs) (on number ys)
-
-sound_front : (primary : List ℕ) (number : ℕ) (items more : List Item) → IsSound primary number (items ++ more) → IsSound primary number items
-sound_front primary number items more sound =
-    let later = drawn_from (place_after Header items) more in
-    let S : List Rect → Type 0 = λ rects. AreSeparate rects in
-    record {
-      front = all_stand-front primary Header items more sound.front;
-      separate = separate_front (rects_on number (elements_of items)) (rects_on number later)
-          (subst S (ap (rects_on number) (drawn_from-append Header items more) ∙ rects_on-append number (elements_of items) later) sound.separate);
-    }
-
--- ---- Behind sound records a sound one follows, and nothing is refused there
+-- ---- Where a record of the first form follows, nothing is refused
 
 same_rest : (bytes : List ℕ) (items : List Item) (rest rest' : List ℕ) → Cuts bytes items rest → Cuts bytes items rest' → rest ≡ rest'
 same_rest bytes items rest rest' one other = append_cancel_left (flat_map spelling items) rest rest' (sym one.whole ∙ other.whole)
 
-module _ (primary : List ℕ) (number : ℕ) (items : List Item) (rest : List ℕ) (item : Item) (more : List ℕ) (text : rest ≡ spelling item ++ more)
-    (here : item.at ≡ end_of items) (good : IsGoodLength (end_of items) (size_of item)) (sound : IsSound primary number (items ++ item ∷ [])) where
-  follows : (kind : LayoutKind) (at : ℕ) → IsNext kind primary number items rest at → ⊥
+module _ (primary : List ℕ) (items : List Item) (rest : List ℕ) (item : Item) (more : List ℕ) (text : rest ≡ spelling item ++ more)
+    (here : item.at ≡ end_of items) (good : IsGoodLength (end_of items) (size_of item)) (front : IsFront primary (items ++ item ∷ [])) where
+  follows : (kind : LayoutKind) (at : ℕ) → IsNext kind primary items rest at → ⊥
   follows kinds.LayoutTooLong at next = whole_not_too_long (end_of items) rest item more text good next.1
   follows kinds.BadLength at next = whole_not_bad_length (end_of items) rest item more text good next.1
   follows kinds.Truncated at next = whole_not_partial (end_of items) rest item more text next.1
   follows kinds.NotBuilt at next =
       let same = same_front item next.item more next.more (here ∙ sym next.here) (sym text ∙ next.whole) in
-      next.unsound (subst (λ (i : Item). IsSound primary number (items ++ i ∷ [])) same.0 sound)
+      next.leaves (subst (λ (i : Item). IsFront primary (items ++ i ∷ [])) same.0 front)
 
-goes_on : (primary : List ℕ) (number : ℕ) (bytes : List ℕ) (items : List Item) (item : Item) (after : List Item) (rest rest' : List ℕ) (kind : LayoutKind) (at : ℕ)
-    → Cuts bytes items rest → Cuts bytes (items ++ item ∷ after) rest' → IsSound primary number (items ++ item ∷ after) → IsNext kind primary number items rest at → ⊥
-goes_on primary number bytes items item after rest rest' kind at cut longer sound next =
+goes_on : (primary : List ℕ) (bytes : List ℕ) (items : List Item) (item : Item) (after : List Item) (rest rest' : List ℕ) (kind : LayoutKind) (at : ℕ)
+    → Cuts bytes items rest → Cuts bytes (items ++ item ∷ after) rest' → IsFront primary (items ++ item ∷ after) → IsNext kind primary items rest at → ⊥
+goes_on primary bytes items item after rest rest' kind at cut longer front next =
     let placed = placed-split 0 items item after longer.placed in
     let G : ℕ → Type 0 = λ n. IsGoodLength n (size_of item) in
     let zero_is : 0 + end_of items ≡ end_of items = omega arith in
-    let S : List Item → Type 0 = λ all. IsSound primary number all in
-    follows primary number items rest item (flat_map spelling after ++ rest')
+    let F : List Item → Type 0 = λ all. IsFront primary all in
+    follows primary items rest item (flat_map spelling after ++ rest')
     (same_rest bytes items rest (spelling item ++ (flat_map spelling after ++ rest')) cut (cuts-split bytes items item after rest' longer))
     (placed.here ∙ zero_is) (subst G zero_is placed.good)
-    (sound_front primary number (items ++ item ∷ []) after (subst S (sym (append_assoc items (item ∷ []) after)) sound))
+    (all_stand-front primary Header (items ++ item ∷ []) after (subst F (sym (append_assoc items (item ∷ []) after)) front))
     kind at next
 
 -- ---- A stream that is accepted isn't refused
 
-accepted_sound : (primary : List ℕ) (number : ℕ) (bytes : List ℕ) (rects : List Rect) (accepts : Accepts primary number bytes rects) → IsSound primary number accepts.items
-accepted_sound primary number bytes rects accepts =
-    let places = places_from_form primary accepts.items accepts.elements accepts.form in
-    let S : List Rect → Type 0 = λ all. AreSeparate all in
-    record { front = places.stand; separate = subst S (accepts.drawn ∙ ap (rects_on number) places.drawn) accepts.separate }
-
-module _ (primary : List ℕ) (number : ℕ) (bytes : List ℕ) (rects : List Rect) (refusal : LayoutRefusal) (accepts : Accepts primary number bytes rects) (refuses : Refuses primary number bytes refusal) where
+module _ (primary : List ℕ) (number : ℕ) (bytes : List ℕ) (rects : List Rect) (refusal : LayoutRefusal) (accepts : Accepts primary number bytes rects) (refuses : Refuses primary bytes refusal) where
   ended : EndsLibrary accepts.items
   ended = form_ends primary accepts.items accepts.elements accepts.form
 
@@ -155,9 +124,9 @@ module _ (primary : List ℕ) (number : ℕ) (bytes : List ℕ) (rects : List Re
       refuses.before_end (subst E (same ∙ append-nil refuses.items) ended)
   not_longer (item ∷ after) same =
       let C : List Item → Type 0 = λ items. Cuts bytes items accepts.rest in
-      let S : List Item → Type 0 = λ items. IsSound primary number items in
-      goes_on primary number bytes refuses.items item after refuses.rest accepts.rest refusal.kind refusal.at refuses.cut
-      (subst C same accepts.cut) (subst S same (accepted_sound primary number bytes rects accepts)) refuses.next
+      let F : List Item → Type 0 = λ items. IsFront primary items in
+      goes_on primary bytes refuses.items item after refuses.rest accepts.rest refusal.kind refusal.at refuses.cut
+      (subst C same accepts.cut) (subst F same (places_from_form primary accepts.items accepts.elements accepts.form).stand) refuses.next
 
   not_shorter : (more : List Item) → refuses.items ≡ accepts.items ++ more → ⊥
   not_shorter [] same =
@@ -174,11 +143,11 @@ module _ (primary : List ℕ) (number : ℕ) (bytes : List ℕ) (rects : List Re
 
 -- ---- A stream is refused in one way
 
-module _ (primary : List ℕ) (number : ℕ) (items : List Item) (rest : List ℕ) where
-  unsound_at : (at : ℕ) → IsUnsound primary number items rest at → at ≡ end_of items
-  unsound_at at unsound = unsound.offset ∙ unsound.here
+module _ (primary : List ℕ) (items : List Item) (rest : List ℕ) where
+  leaves_at : (at : ℕ) → LeavesForm primary items rest at → at ≡ end_of items
+  leaves_at at leaves = leaves.offset ∙ leaves.here
 
-  next_is_one : (kind kind' : LayoutKind) (at at' : ℕ) → IsNext kind primary number items rest at → IsNext kind' primary number items rest at' → (at ≡ at') × (kind ≡ kind')
+  next_is_one : (kind kind' : LayoutKind) (at at' : ℕ) → IsNext kind primary items rest at → IsNext kind' primary items rest at' → (at ≡ at') × (kind ≡ kind')
   next_is_one kinds.LayoutTooLong kinds.LayoutTooLong at at' p q = (p.0 ∙ sym q.0, refl)
   next_is_one kinds.LayoutTooLong kinds.Truncated at at' p q = absurd (partial_not_too_long (end_of items) rest q.1 p.1)
   next_is_one kinds.LayoutTooLong kinds.BadLength at at' p q = absurd (too_long_not_bad_length (end_of items) rest p.1 q.1)
@@ -194,27 +163,27 @@ module _ (primary : List ℕ) (number : ℕ) (items : List Item) (rest : List �
   next_is_one kinds.NotBuilt kinds.LayoutTooLong at at' p q = absurd (whole_not_too_long (end_of items) rest p.item p.more p.whole p.good q.1)
   next_is_one kinds.NotBuilt kinds.Truncated at at' p q = absurd (whole_not_partial (end_of items) rest p.item p.more p.whole q.1)
   next_is_one kinds.NotBuilt kinds.BadLength at at' p q = absurd (whole_not_bad_length (end_of items) rest p.item p.more p.whole p.good q.1)
-  next_is_one kinds.NotBuilt kinds.NotBuilt at at' p q = (unsound_at at p ∙ sym (unsound_at at' q), refl)
+  next_is_one kinds.NotBuilt kinds.NotBuilt at at' p q = (leaves_at at p ∙ sym (leaves_at at' q), refl)
 
 same_refusal : (a b : LayoutRefusal) → (a.at ≡ b.at) × (a.kind ≡ b.kind) → a ≡ b
 same_refusal a b same =
     ap (λ (n : ℕ). let r : LayoutRefusal = record { at = n; kind = a.kind } in r) same.0 ∙ ap (λ (k : LayoutKind). let r : LayoutRefusal = record { at = b.at; kind = k } in r) same.1
 
-module _ (primary : List ℕ) (number : ℕ) (bytes : List ℕ) where
-  no_further : (a b : LayoutRefusal) (p : Refuses primary number bytes a) (q : Refuses primary number bytes b) (more : List Item) → q.items ≡ p.items ++ more → a ≡ b
+module _ (primary : List ℕ) (bytes : List ℕ) where
+  no_further : (a b : LayoutRefusal) (p : Refuses primary bytes a) (q : Refuses primary bytes b) (more : List Item) → q.items ≡ p.items ++ more → a ≡ b
   no_further a b p q [] same =
       let is : q.items ≡ p.items = same ∙ append-nil p.items in
       let C : List Item → Type 0 = λ items. Cuts bytes items q.rest in
       let rest_is = same_rest bytes p.items q.rest p.rest (subst C is q.cut) p.cut in
-      let N : List Item → Type 0 = λ items. IsNext b.kind primary number items q.rest b.at in
-      let M : List ℕ → Type 0 = λ rest. IsNext b.kind primary number p.items rest b.at in
-      same_refusal a b (next_is_one primary number p.items p.rest a.kind b.kind a.at b.at p.next (subst M rest_is (subst N is q.next)))
+      let N : List Item → Type 0 = λ items. IsNext b.kind primary items q.rest b.at in
+      let M : List ℕ → Type 0 = λ rest. IsNext b.kind primary p.items rest b.at in
+      same_refusal a b (next_is_one primary p.items p.rest a.kind b.kind a.at b.at p.next (subst M rest_is (subst N is q.next)))
   no_further a b p q (item ∷ after) same =
       let C : List Item → Type 0 = λ items. Cuts bytes items q.rest in
-      let S : List Item → Type 0 = λ items. IsSound primary number items in
-      absurd (goes_on primary number bytes p.items item after p.rest q.rest a.kind a.at p.cut (subst C same q.cut) (subst S same q.sound) p.next)
+      let F : List Item → Type 0 = λ items. IsFront primary items in
+      absurd (goes_on primary bytes p.items item after p.rest q.rest a.kind a.at p.cut (subst C same q.cut) (subst F same q.front) p.next)
 
-  pub one_refusal : (a b : LayoutRefusal) → Refuses primary number bytes a → Refuses primary number bytes b → a ≡ b
+  pub one_refusal : (a b : LayoutRefusal) → Refuses primary bytes a → Refuses primary bytes b → a ≡ b
   one_refusal a b p q =
       let both = cuts-fronts bytes p.items q.items p.rest q.rest p.cut q.cut in
       elim both.1 [ inl longer ↦ no_further a b p q both.0 longer | inr shorter ↦ sym (no_further b a q p both.0 shorter) ]

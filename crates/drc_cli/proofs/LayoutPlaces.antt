@@ -1,20 +1,21 @@
 -- Laws of the places: how a front grows at its end, and what its parts are.
-use Rattle.std.proofs.Common.{◌≡◌, ℕ, ◌⊎◌, inl, inr, Bool, true, false, cond, List, [], ◌∷◌, ◌++◌, refl, sym, ap, ◌∙◌, arith, append_assoc, eq-eqb}
+use Rattle.std.proofs.Common.{◌≡◌, ℕ, Bool, cond, List, [], ◌∷◌, ◌++◌, map, refl, sym, ap, ◌∙◌, arith, append_assoc, eq-eqb}
 use Rattle.std.specs.Prelude.{filter, ◌==◌}
-use Rattle.std.proofs.lemmas.List.{append-nil}
+use Rattle.std.proofs.lemmas.List.{append-nil, map-append}
 use Rattle.std.proofs.lemmas.List.Elements.{filter-append}
 use Rattle.std.proofs.lemmas.Bool.Decides.{nat_tests}
 use Rattle.gds_records.specs.Records.{Item}
 use Rattle.drc_cli.specs.declared.layout.place.Place.{Place}
 use Rattle.drc_cli.specs.declared.layout.place.Place.TheVariants.{Points}
-use Rattle.drc_cli.specs.Layout.{Element, Stands, following, drawn_at, AllStand, place_after, drawn_from, rect_in}
+use Rattle.drc_cli.specs.Layout.{Element, Stands, following, drawn_at, AllStand, place_after, drawn_from, rect_in, rects_on}
 
 -- the elements of one layer
 abbrev pub on : (number : ℕ) → List Element → List Element
 on number elements = filter (λ element. element.number == number) elements
 
-pub on-append : (number : ℕ) (xs ys : List Element) → on number (xs ++ ys) ≡ on number xs ++ on number ys
-on-append number xs ys = filter-append (λ element. element.number == number) xs ys
+pub rects_on-append : (number : ℕ) (xs ys : List Element) → rects_on number (xs ++ ys) ≡ rects_on number xs ++ rects_on number ys
+rects_on-append number xs ys =
+    ap (map (λ (e : Element). e.rect)) (filter-append (λ element. element.number == number) xs ys) ∙ map-append (λ (e : Element). e.rect) (on number xs) (on number ys)
 
 -- ---- A front grows at its end
 
@@ -45,21 +46,6 @@ pub all_stand-front : (primary : List ℕ) (place : Place) (items more : List It
 all_stand-front primary place [] more all = tt
 all_stand-front primary place (first ∷ items) more all = (all.0, all_stand-front primary (following place first) items more all.1)
 
--- ---- What one record adds to the elements of a layer: nothing, or one at its offset
-
-on-single : (number : ℕ) (element : Element) → (on number (element ∷ []) ≡ []) ⊎ (on number (element ∷ []) ≡ element ∷ [])
-on-single number element =
-    elim (element.number == number) as (λ b. (cond b (element ∷ []) [] ≡ []) ⊎ (cond b (element ∷ []) [] ≡ element ∷ [])) [ true ↦ inr refl | false ↦ inl refl ]
-
-abbrev pub Adds : (number : ℕ) → Place → Item → Type 0
-Adds number place item = (on number (drawn_at place item) ≡ []) ⊎ ((element : Element) × (on number (drawn_at place item) ≡ element ∷ []) × (element.at ≡ item.at))
-
-pub adds : (number : ℕ) (place : Place) (item : Item) → Adds number place item
-adds number (Points layer) item =
-    let element : Element = record { number = layer; rect = rect_in item.body; at = item.at } in
-    elim (on-single number element) as (λ _. Adds number (Points layer) item) [ inl none ↦ inl none | inr one ↦ inr (element, one, refl) ]
-adds number place item = inl refl
-
 -- ---- Which records add an element to a layer
 
 on-here : (number : ℕ) (element : Element) → element.number ≡ number → on number (element ∷ []) ≡ element ∷ []
@@ -70,9 +56,9 @@ on-elsewhere number element ne =
     let P : Bool → Type 0 = λ b. cond b (element ∷ []) [] ≡ [] in
     grind (arith, nat_tests)
 
-pub here : (number : ℕ) (place : Place) (item : Item) → place ≡ Points number → on number (drawn_at place item) ≡ record { number = number; rect = rect_in item.body; at = item.at } ∷ []
-here number place item is = ap (λ (p : Place). on number (drawn_at p item)) is ∙ on-here number (record { number = number; rect = rect_in item.body; at = item.at }) refl
+pub here : (number : ℕ) (place : Place) (item : Item) → place ≡ Points number → on number (drawn_at place item) ≡ record { number = number; rect = rect_in item.body } ∷ []
+here number place item is = ap (λ (p : Place). on number (drawn_at p item)) is ∙ on-here number (record { number = number; rect = rect_in item.body }) refl
 
 pub elsewhere : (number : ℕ) (place : Place) (item : Item) → (place ≡ Points number → ⊥) → on number (drawn_at place item) ≡ []
-elsewhere number (Points layer) item other = on-elsewhere number (record { number = layer; rect = rect_in item.body; at = item.at }) (λ e. other (ap Points e))
+elsewhere number (Points layer) item other = on-elsewhere number (record { number = layer; rect = rect_in item.body }) (λ e. other (ap Points e))
 elsewhere number place item other = refl

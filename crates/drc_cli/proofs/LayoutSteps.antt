@@ -1,7 +1,6 @@
 -- What each step of the reading leaves.
-use Rattle.std.proofs.Common.{◌≡◌, ℕ, ◌+◌, inl, inr, true, false, List, [], ◌∷◌, ◌++◌, length, map, refl, sym, ap, subst, ◌∙◌, arith, append_assoc}
+use Rattle.std.proofs.Common.{◌≡◌, ℕ, ◌+◌, inl, inr, true, false, List, [], ◌∷◌, ◌++◌, length, refl, sym, ap, subst, ◌∙◌, arith, append_assoc}
 use Rattle.std.specs.Prelude.{◌==◌}
-use Rattle.std.proofs.lemmas.List.{map-append}
 use Rattle.std.proofs.lemmas.Bool.Decides.{nat_tests}
 use Rattle.drc_geom.specs.declared.rect.Rect.{Rect}
 use Rattle.gds_records.specs.declared.fault.LayoutKind.{LayoutKind}
@@ -14,9 +13,9 @@ use Rattle.gds_records.proofs.Cutting.{end_of-push, ends_library-push, cuts-star
 use Rattle.drc_cli.specs.declared.layout.place.Place.{Place}
 use Rattle.drc_cli.specs.declared.layout.place.Place.TheVariants.{Header, LibraryStart, LibraryName, Units, StructureStart, StructureName, Elements, Layer, DataType, Points, ElementEnd, LibraryEnd, End}
 use Rattle.drc_cli.specs.declared.layout.reader.Stop.TheVariants.{Ended, Refused, ReadFault}
-use Rattle.drc_cli.specs.Layout.{Element, Stands, following, drawn_at, place_after, drawn_from, elements_of, IsNext, rects_on}
-use Rattle.drc_cli.specs.LayoutReading.{offsets_on, Tracks, IsAt, HasStopped}
-use Rattle.drc_cli.proofs.LayoutPlaces.{on, on-append, place_after-append, drawn_from-push, all_stand-push, all_stand-last}
+use Rattle.drc_cli.specs.Layout.{Stands, following, drawn_at, place_after, drawn_from, elements_of, IsNext, rects_on}
+use Rattle.drc_cli.specs.LayoutReading.{Tracks, IsAt, HasStopped}
+use Rattle.drc_cli.proofs.LayoutPlaces.{rects_on-append, place_after-append, drawn_from-push, all_stand-push, all_stand-last}
 
 -- ---- Where ENDLIB stands, the layout has ended
 
@@ -42,21 +41,18 @@ kind_is kind same = grind (arith, nat_tests)
 ends_apart : (kind : ℕ) → kind ≡ endlib → (kind == endlib) ≡ false → ⊥
 ends_apart kind is other = grind (arith, nat_tests)
 
--- ---- The elements of a layer, with one record more
+-- ---- The rectangles of a layer, with one record more
 
-module _ {X : Type 0} (f : Element → X) where
-  known-push : (number : ℕ) (items : List Item) (item : Item)
-      → map f (on number (elements_of (items ++ item ∷ []))) ≡ map f (on number (elements_of items)) ++ map f (on number (drawn_at (place_after Header items) item))
-  known-push number items item =
-      ap (λ (t : List Element). map f (on number t)) (drawn_from-push Header items item)
-      ∙ ap (map f) (on-append number (drawn_from Header items) (drawn_at (place_after Header items) item))
-      ∙ map-append f (on number (drawn_from Header items)) (on number (drawn_at (place_after Header items) item))
+rects_on-push : (number : ℕ) (items : List Item) (item : Item)
+    → rects_on number (elements_of (items ++ item ∷ [])) ≡ rects_on number (elements_of items) ++ rects_on number (drawn_at (place_after Header items) item)
+rects_on-push number items item =
+    ap (rects_on number) (drawn_from-push Header items item) ∙ rects_on-append number (drawn_from Header items) (drawn_at (place_after Header items) item)
 
 -- ---- The steps
 
-pub at_start : (primary : List ℕ) (number : ℕ) → IsAt primary number [] [] start_of_stream Header [] []
+pub at_start : (primary : List ℕ) (number : ℕ) → IsAt primary number [] [] start_of_stream Header []
 at_start primary number = record {
-  tracks = record { cut = cuts-start []; front = tt; drawn = refl; located = refl };
+  tracks = record { cut = cuts-start []; front = tt; drawn = refl };
   behind = refl;
   near = omega arith;
   next = refl;
@@ -64,10 +60,10 @@ at_start primary number = record {
   whole = λ e. absurd (cc);
 }
 
-pub fed_more : (primary : List ℕ) (number : ℕ) (fed : List ℕ) (items : List Item) (stream : Stream) (place : Place) (rects : List Rect) (offsets : List ℕ) (piece : List ℕ)
-    → IsAt primary number fed items stream place rects offsets → IsAt primary number (fed ++ piece) items (record stream { left = stream.left ++ piece }) place rects offsets
-fed_more primary number fed items stream place rects offsets piece state = record {
-  tracks = record { cut = cuts-more fed items stream.left piece state.tracks.cut; front = state.tracks.front; drawn = state.tracks.drawn; located = state.tracks.located };
+pub fed_more : (primary : List ℕ) (number : ℕ) (fed : List ℕ) (items : List Item) (stream : Stream) (place : Place) (rects : List Rect) (piece : List ℕ)
+    → IsAt primary number fed items stream place rects → IsAt primary number (fed ++ piece) items (record stream { left = stream.left ++ piece }) place rects
+fed_more primary number fed items stream place rects piece state = record {
+  tracks = record { cut = cuts-more fed items stream.left piece state.tracks.cut; front = state.tracks.front; drawn = state.tracks.drawn };
   behind = state.behind;
   near = state.near;
   next = state.next;
@@ -75,27 +71,26 @@ fed_more primary number fed items stream place rects offsets piece state = recor
   whole = state.whole;
 }
 
-module _ (primary : List ℕ) (number : ℕ) (fed : List ℕ) (items : List Item) (stream : Stream) (place : Place) (rects : List Rect) (offsets : List ℕ)
-    (state : IsAt primary number fed items stream place rects offsets) where
-  tracks_more : (more : List ℕ) → Tracks primary number (fed ++ more) items (stream.left ++ more) rects offsets
+module _ (primary : List ℕ) (number : ℕ) (fed : List ℕ) (items : List Item) (stream : Stream) (place : Place) (rects : List Rect)
+    (state : IsAt primary number fed items stream place rects) where
+  tracks_more : (more : List ℕ) → Tracks primary number (fed ++ more) items (stream.left ++ more) rects
   tracks_more more = record {
     cut = cuts-more fed items stream.left more state.tracks.cut;
     front = state.tracks.front;
     drawn = state.tracks.drawn;
-    located = state.tracks.located;
   }
 
-  pub when_ended : stream.ended ≡ true → (more : List ℕ) → HasStopped primary number (fed ++ more) rects offsets Ended
+  pub when_ended : stream.ended ≡ true → (more : List ℕ) → HasStopped primary number (fed ++ more) rects Ended
   when_ended ended more = record { items = items; rest = stream.left ++ more; tracks = tracks_more more; why = state.whole ended }
 
-  pub when_failed : (more : List ℕ) → HasStopped primary number (fed ++ more) rects offsets ReadFault
+  pub when_failed : (more : List ℕ) → HasStopped primary number (fed ++ more) rects ReadFault
   when_failed more = record { items = items; rest = stream.left ++ more; tracks = tracks_more more; why = tt }
 
   pub when_truncated : stream.ended ≡ false → IsPartial stream.at stream.left → (refusal : LayoutRefusal) → refusal ≡ record { at = stream.at + length stream.left; kind = kinds.Truncated }
-      → HasStopped primary number fed rects offsets (Refused refusal)
+      → HasStopped primary number fed rects (Refused refusal)
   when_truncated ended less refusal is =
       let P : ℕ → Type 0 = λ at. IsPartial at stream.left in
-      let Q : LayoutRefusal → Type 0 = λ r. HasStopped primary number fed rects offsets (Refused r) in
+      let Q : LayoutRefusal → Type 0 = λ r. HasStopped primary number fed rects (Refused r) in
       subst Q (sym is) (record {
         items = items;
         rest = stream.left;
@@ -103,14 +98,14 @@ module _ (primary : List ℕ) (number : ℕ) (fed : List ℕ) (items : List Item
         why = (state.goes_on ended, (ap (λ (at : ℕ). at + length stream.left) state.behind, subst P state.behind less));
       })
 
-  refused-next : (kind : LayoutKind) (at : ℕ) (more : List ℕ) → at ≡ end_of items → IsRefusedAs kind (end_of items) stream.left → IsNext kind primary number items (stream.left ++ more) at
+  refused-next : (kind : LayoutKind) (at : ℕ) (more : List ℕ) → at ≡ end_of items → IsRefusedAs kind (end_of items) stream.left → IsNext kind primary items (stream.left ++ more) at
   refused-next kinds.LayoutTooLong at more is refused = (is, too_long-more (end_of items) stream.left more refused)
   refused-next kinds.BadLength at more is refused = (is, bad_length-more (end_of items) stream.left more refused)
   refused-next kinds.Truncated at more is refused = absurd refused
   refused-next kinds.NotBuilt at more is refused = absurd refused
 
   pub when_refused : stream.ended ≡ false → (refusal : LayoutRefusal) → refusal.at ≡ stream.at → IsRefusedAs refusal.kind stream.at stream.left
-      → (more : List ℕ) → HasStopped primary number (fed ++ more) rects offsets (Refused refusal)
+      → (more : List ℕ) → HasStopped primary number (fed ++ more) rects (Refused refusal)
   when_refused ended refusal at refused more =
       let P : ℕ → Type 0 = λ n. IsRefusedAs refusal.kind n stream.left in record {
         items = items;
@@ -123,7 +118,7 @@ module _ (primary : List ℕ) (number : ℕ) (fed : List ℕ) (items : List Item
     good_here : IsGoodLength (end_of items) (size_of item)
     good_here = let P : ℕ → Type 0 = λ n. IsGoodLength n (size_of item) in subst P state.behind good
 
-    pub when_not_built : (Stands primary place item → ⊥) → (more : List ℕ) → HasStopped primary number (fed ++ more) rects offsets (Refused (record { at = item.at; kind = kinds.NotBuilt }))
+    pub when_not_built : (Stands primary place item → ⊥) → (more : List ℕ) → HasStopped primary number (fed ++ more) rects (Refused (record { at = item.at; kind = kinds.NotBuilt }))
     when_not_built wrong more = record {
       items = items;
       rest = stream.left ++ more;
@@ -136,17 +131,17 @@ module _ (primary : List ℕ) (number : ℕ) (fed : List ℕ) (items : List Item
           whole = ap (λ (t : List ℕ). t ++ more) front ∙ append_assoc (spelling item) left more;
           here = at ∙ state.behind;
           good = good_here;
-          unsound = λ sound. wrong (let P : Place → Type 0 = λ p. Stands primary p item in subst P (sym state.next) (all_stand-last primary Header items item sound.front));
+          leaves = λ front. wrong (let P : Place → Type 0 = λ p. Stands primary p item in subst P (sym state.next) (all_stand-last primary Header items item front));
           offset = refl;
         },
       );
     }
 
-    pub when_taken : (next : Stream) (place' : Place) (rects' : List Rect) (offsets' : List ℕ)
+    pub when_taken : (next : Stream) (place' : Place) (rects' : List Rect)
         → next.at ≡ stream.at + size_of item → next.left ≡ left → next.ended ≡ (item.kind == endlib) → Stands primary place item → place' ≡ following place item
-        → rects' ≡ rects ++ rects_on number (drawn_at place item) → offsets' ≡ offsets ++ offsets_on number (drawn_at place item)
-        → IsAt primary number fed (items ++ item ∷ []) next place' rects' offsets'
-    when_taken next place' rects' offsets' moved rest last stands follows drawn located =
+        → rects' ≡ rects ++ rects_on number (drawn_at place item)
+        → IsAt primary number fed (items ++ item ∷ []) next place' rects'
+    when_taken next place' rects' moved rest last stands follows drawn =
         let P : Place → Type 0 = λ p. Stands primary p item in
         let here : Stands primary (place_after Header items) item = subst P state.next stands in
         let C : List ℕ → Type 0 = λ t. Cuts fed (items ++ item ∷ []) t in
@@ -157,10 +152,7 @@ module _ (primary : List ℕ) (number : ℕ) (fed : List ℕ) (items : List Item
             front = all_stand-push primary Header items item state.tracks.front here;
             drawn = drawn ∙ ap (λ (t : List Rect). t ++ rects_on number (drawn_at place item)) state.tracks.drawn
                 ∙ ap (λ (p : Place). rects_on number (elements_of items) ++ rects_on number (drawn_at p item)) state.next
-                ∙ sym (known-push (λ element. element.rect) number items item);
-            located = located ∙ ap (λ (t : List ℕ). t ++ offsets_on number (drawn_at place item)) state.tracks.located
-                ∙ ap (λ (p : Place). offsets_on number (elements_of items) ++ offsets_on number (drawn_at p item)) state.next
-                ∙ sym (known-push (λ element. element.at) number items item);
+                ∙ sym (rects_on-push number items item);
           };
           behind = moved ∙ ap (λ (n : ℕ). n + size_of item) state.behind ∙ sym (end_of-push items item);
           near = omega (arith, moved, good.near);

@@ -8,12 +8,9 @@ pub mod LayoutForms
 pub mod LayoutSplits
 pub mod LayoutSteps
 pub mod LayoutPieces
-pub mod LayoutJudged
+pub mod LayoutAnswers
 pub mod LayoutLaws
-mod SeparateOpen
-mod SeparateSweep
-mod SeparatePairs
-mod SidesInOrder
+pub mod ShortRuns
 pub mod Words
 pub mod Pieces
 pub mod Names

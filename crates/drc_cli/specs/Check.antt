@@ -11,7 +11,7 @@ use Rattle.drc_cli.specs.declared.answer.DeckKind.TheVariants as deck
 use Rattle.drc_cli.specs.Command.{Check}
 use Rattle.drc_cli.specs.Deck.{Deck, Spells, input_of, units_of}
 use Rattle.drc_cli.specs.Layout.{Accepts, Refuses}
-use Rattle.drc_cli.specs.Sides.{IsShortRun}
+use Rattle.drc_cli.specs.ShortRuns.{IsShortRun}
 use Rattle.drc_cli.specs.Text.{results_text, said_text}
 
 abbrev pub Held : Type 0
@@ -42,7 +42,7 @@ pub record RefusesLayout (held : Held) (check : Check) (refusal : LayoutRefusal)
   pub bytes : List ℕ
   pub has_deck : HasDeck held check d
   pub is_held : held d.layout ≡ Some bytes
-  pub refused : Refuses d.primary (input_of d).number bytes refusal
+  pub refused : Refuses d.primary bytes refusal
 
 -- The check means this text for the results file of this name, and this line: the text lists the runs of the
 -- boundary of the layer's squares that are shorter than the deck's bound, in run order.

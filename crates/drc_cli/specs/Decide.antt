@@ -20,7 +20,8 @@ IsDecided check (Ok ready) old new =
     OnlyReads old new × (new.read_faults ≡ old.read_faults) × RoseBy 2 old.begun new.begun × (ready.name ≡ string_bytes ready.file)
 IsDecided check (Err (refusals.Deck refusal)) old new =
     OnlyReads old new × (new.read_faults ≡ old.read_faults) × RoseBy 1 old.begun new.begun × (new.opened ≡ check.deck)
-IsDecided check (Err (refusals.Layout refusal)) old new = OnlyReads old new × RoseBy 2 old.begun new.begun
+IsDecided check (Err (refusals.Layout refusal)) old new =
+    OnlyReads old new × (new.read_faults ≡ old.read_faults) × RoseBy 2 old.begun new.begun
 IsDecided check (Err (refusals.ReadFault which.Deck name)) old new =
     OnlyReads old new × Rose old.read_faults new.read_faults × RoseBy 1 old.begun new.begun
     × (new.opened ≡ name) × (name ≡ check.deck)

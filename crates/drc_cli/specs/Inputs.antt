@@ -13,7 +13,7 @@ use Rattle.drc_cli.specs.declared.ready.Ready.{Ready}
 use Rattle.drc_cli.specs.declared.refusal.Refusal.{Refusal}
 use Rattle.drc_cli.specs.declared.refusal.Refusal.TheVariants as refusals
 use Rattle.drc_cli.specs.Layout.{Accepts, Refuses}
-use Rattle.drc_cli.specs.Sides.{IsShortRun}
+use Rattle.drc_cli.specs.ShortRuns.{IsShortRun}
 use Rattle.drc_cli.specs.Text.{results_text, said_text}
 use Rattle.drc_cli.specs.Decide.{OnlyReads}
 
@@ -38,7 +38,7 @@ abbrev pub IsLayoutRead : Result (Vec Rect) Refusal → Tally → Tally → Type
 IsLayoutRead (Ok rects) old new = OnlyReads old new × (new.read_faults ≡ old.read_faults) × (new.begun ≡ one_more old.begun)
 IsLayoutRead (Err (refusals.ReadFault which.Layout kept)) old new =
     OnlyReads old new × Rose old.read_faults new.read_faults × (new.begun ≡ one_more old.begun) × (new.opened ≡ kept)
-IsLayoutRead (Err (refusals.Layout refusal)) old new = OnlyReads old new × (new.begun ≡ one_more old.begun)
+IsLayoutRead (Err (refusals.Layout refusal)) old new = OnlyReads old new × (new.read_faults ≡ old.read_faults) × (new.begun ≡ one_more old.begun)
 IsLayoutRead (Err refusals.Memory) old new = OnlyReads old new
 IsLayoutRead (Err refusal) old new = ⊥
 
@@ -46,7 +46,7 @@ abbrev pub ReadsLayout : FirstDeck → Result (Vec Rect) Refusal → Contents �
 ReadsLayout deck (Ok rects) old =
     (bytes : List ℕ) × (old.held deck.layout.now ≡ Some bytes) × Accepts deck.primary.now deck.number bytes rects.items
 ReadsLayout deck (Err (refusals.Layout refusal)) old =
-    (bytes : List ℕ) × (old.held deck.layout.now ≡ Some bytes) × Refuses deck.primary.now deck.number bytes refusal
+    (bytes : List ℕ) × (old.held deck.layout.now ≡ Some bytes) × Refuses deck.primary.now bytes refusal
 ReadsLayout deck (Err (refusals.ReadFault file kept)) old = kept ≡ deck.layout.now
 ReadsLayout deck (Err refusal) old = Unit {0}
 
@@ -65,7 +65,7 @@ IsServed (Ok ready) old new =
     OnlyReads old new × (new.read_faults ≡ old.read_faults) × (new.begun ≡ one_more old.begun) × (ready.name ≡ string_bytes ready.file)
 IsServed (Err (refusals.ReadFault which.Layout kept)) old new =
     OnlyReads old new × Rose old.read_faults new.read_faults × (new.begun ≡ one_more old.begun) × (new.opened ≡ kept)
-IsServed (Err (refusals.Layout refusal)) old new = OnlyReads old new × (new.begun ≡ one_more old.begun)
+IsServed (Err (refusals.Layout refusal)) old new = OnlyReads old new × (new.read_faults ≡ old.read_faults) × (new.begun ≡ one_more old.begun)
 IsServed (Err refusals.Memory) old new = OnlyReads old new
 IsServed (Err refusal) old new = ⊥
 
@@ -74,6 +74,6 @@ IsServedOf date deck (Ok ready) old =
     (bytes : List ℕ) × (rects : List Rect) × (old.held deck.layout.now ≡ Some bytes)
     × Accepts deck.primary.now deck.number bytes rects × IsReady date deck rects ready
 IsServedOf date deck (Err (refusals.Layout refusal)) old =
-    (bytes : List ℕ) × (old.held deck.layout.now ≡ Some bytes) × Refuses deck.primary.now deck.number bytes refusal
+    (bytes : List ℕ) × (old.held deck.layout.now ≡ Some bytes) × Refuses deck.primary.now bytes refusal
 IsServedOf date deck (Err (refusals.ReadFault file kept)) old = kept ≡ deck.layout.now
 IsServedOf date deck (Err refusal) old = Unit {0}

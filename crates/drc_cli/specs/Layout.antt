@@ -5,13 +5,14 @@
 --
 -- What each record is stands first, then the grammar by cases on the list of records, then the same grammar by places:
 -- what may stand at a place, and what place follows. The check's layer is one layer number; the layout has the
--- rectangles of that layer, and no two of them share a point.
+-- rectangles of that layer, which may touch, overlap and repeat.
 use Rattle.std.specs.Prelude.{◌≡◌, ◌≢◌, ◌⊎◌, ℕ, ◌+◌, ◌-◌, ◌*◌, ◌^◌, ◌==◌, if◌then◌else◌, List, [], ◌∷◌, ◌++◌, length, take, drop, map, filter, slice_get, All, Some, ℤ, pos, negsuc, ◌≤ℤ◌}
 use Rattle.std.specs.Int.{cast_signed, w32}
 use Rattle.byteorder.specs.Endian.{big_number}
+use Rattle.drc_geom.specs.declared.point.Pt.{Pt}
 use Rattle.drc_geom.specs.declared.rect.Rect.{Rect}
+use Rattle.drc_geom.specs.Winding.{outline}
 use Rattle.drc_geom.specs.Squares.{IsRect}
-use Rattle.drc_geom.specs.Separate.{AreSeparate}
 use Rattle.gds_records.specs.declared.record_type.RecordType.{RecordType}
 use Rattle.gds_records.specs.declared.record_type.RecordType.TheVariants as types
 use Rattle.gds_records.specs.declared.data_form.DataForm.{DataForm}
@@ -90,9 +91,10 @@ coordinates body =
 abbrev pub rect_in : List ℕ → Rect
 rect_in body = record { x0 = coordinate 0 body; y0 = coordinate 1 body; x1 = coordinate 4 body; y1 = coordinate 5 body }
 
--- the corners of a rectangle from the lower left one on, counterclockwise, and the first of them again
-abbrev pub corners : Rect → List ℤ
-corners r = r.x0 ∷ r.y0 ∷ r.x1 ∷ r.y0 ∷ r.x1 ∷ r.y1 ∷ r.x0 ∷ r.y1 ∷ r.x0 ∷ r.y0 ∷ []
+-- the coordinates of points, one after the other
+abbrev pub coordinates_of : List Pt → List ℤ
+coordinates_of [] = []
+coordinates_of (p ∷ points) = p.x ∷ p.y ∷ coordinates_of points
 
 -- a rectangle within -2^30 to 2^30
 pub record IsInRange (r : Rect) : Type 0 where
@@ -101,10 +103,10 @@ pub record IsInRange (r : Rect) : Type 0 where
   pub east : r.x1 ≤ℤ pos (2 ^ 30)
   pub north : r.y1 ≤ℤ pos (2 ^ 30)
 
--- five points that are the corners of a rectangle with an area, in range
+-- five points that are the outline of a rectangle with an area, in range
 pub record IsOutline (body : List ℕ) : Type 0 where
   pub size : length body ≡ 40
-  pub corners : coordinates body ≡ corners (rect_in body)
+  pub points : coordinates body ≡ coordinates_of (outline (rect_in body))
   pub area : IsRect (rect_in body)
   pub range : IsInRange (rect_in body)
 
@@ -122,11 +124,10 @@ IsLibraryEnd item = IsOf types.EndLibrary forms.NoData item × (length item.body
 
 -- ---- The grammar
 
--- an element: its layer number, its rectangle, and the offset of its XY
+-- an element: its layer number and its rectangle
 pub record Element : Type 0 where
   pub number : ℕ
   pub rect : Rect
-  pub at : ℕ
 
 -- five records are an element
 pub record IsElement (boundary layer kind points end : Item) (element : Element) : Type 0 where
@@ -135,7 +136,7 @@ pub record IsElement (boundary layer kind points end : Item) (element : Element)
   pub typed : IsDataType kind
   pub drawn : IsPoints points
   pub closes : IsElementEnd end
-  pub known : element ≡ record { number = number_in layer.body; rect = rect_in points.body; at = points.at }
+  pub known : element ≡ record { number = number_in layer.body; rect = rect_in points.body }
 
 -- elements one after the other, then ENDSTR and ENDLIB
 abbrev pub AreElements : List Item → List Element → Type 0
@@ -163,7 +164,6 @@ pub record Accepts (primary : List ℕ) (number : ℕ) (bytes : List ℕ) (rects
   pub cut : Cuts bytes items rest
   pub form : FirstForm primary items elements
   pub drawn : rects ≡ rects_on number elements
-  pub separate : AreSeparate rects
 
 -- ---- The grammar by places
 
@@ -201,7 +201,7 @@ following End item = End
 
 -- the element that is known at a record: one counts from its XY on
 abbrev pub drawn_at : Place → Item → List Element
-drawn_at (Points number) item = record { number = number; rect = rect_in item.body; at = item.at } ∷ []
+drawn_at (Points number) item = record { number = number; rect = rect_in item.body } ∷ []
 drawn_at place item = []
 
 -- each record may stand at its place
@@ -227,35 +227,30 @@ elements_of items = drawn_from Header items
 abbrev pub IsFront : (primary : List ℕ) → List Item → Type 0
 IsFront primary items = AllStand primary Header items
 
--- and no two rectangles of the layer so far share a point
-pub record IsSound (primary : List ℕ) (number : ℕ) (items : List Item) : Type 0 where
-  pub front : IsFront primary items
-  pub separate : AreSeparate (rects_on number (elements_of items))
-
 -- ---- Refusals
 
--- the next record is whole, and with it the records are sound no longer
-pub record IsUnsound (primary : List ℕ) (number : ℕ) (items : List Item) (rest : List ℕ) (at : ℕ) : Type 0 where
+-- the next record is whole, and with it the records are no such front
+pub record LeavesForm (primary : List ℕ) (items : List Item) (rest : List ℕ) (at : ℕ) : Type 0 where
   pub item : Item
   pub more : List ℕ
   pub whole : rest ≡ spelling item ++ more
   pub here : item.at ≡ end_of items
   pub good : IsGoodLength (end_of items) (size_of item)
-  pub unsound : IsSound primary number (items ++ item ∷ []) → ⊥
+  pub leaves : IsFront primary (items ++ item ∷ []) → ⊥
   pub offset : at ≡ item.at
 
 -- the fact behind the records for which a layout is refused
-abbrev pub IsNext : LayoutKind → (primary : List ℕ) (number : ℕ) (items : List Item) (rest : List ℕ) (at : ℕ) → Type 0
-IsNext kinds.LayoutTooLong primary number items rest at = (at ≡ end_of items) × IsTooLong (end_of items) rest
-IsNext kinds.BadLength primary number items rest at = (at ≡ end_of items) × IsBadLength (end_of items) rest
-IsNext kinds.Truncated primary number items rest at = (at ≡ end_of items + length rest) × IsPartial (end_of items) rest
-IsNext kinds.NotBuilt primary number items rest at = IsUnsound primary number items rest at
+abbrev pub IsNext : LayoutKind → (primary : List ℕ) (items : List Item) (rest : List ℕ) (at : ℕ) → Type 0
+IsNext kinds.LayoutTooLong primary items rest at = (at ≡ end_of items) × IsTooLong (end_of items) rest
+IsNext kinds.BadLength primary items rest at = (at ≡ end_of items) × IsBadLength (end_of items) rest
+IsNext kinds.Truncated primary items rest at = (at ≡ end_of items + length rest) × IsPartial (end_of items) rest
+IsNext kinds.NotBuilt primary items rest at = LeavesForm primary items rest at
 
--- A layout of these bytes is refused so: behind sound records, before ENDLIB, this fact comes next.
-pub record Refuses (primary : List ℕ) (number : ℕ) (bytes : List ℕ) (refusal : LayoutRefusal) : Type 0 where
+-- A layout of these bytes is refused so: behind records of the first form, before ENDLIB, this fact comes next.
+pub record Refuses (primary : List ℕ) (bytes : List ℕ) (refusal : LayoutRefusal) : Type 0 where
   pub items : List Item
   pub rest : List ℕ
   pub cut : Cuts bytes items rest
-  pub sound : IsSound primary number items
+  pub front : IsFront primary items
   pub before_end : EndsLibrary items → ⊥
-  pub next : IsNext refusal.kind primary number items rest refusal.at
+  pub next : IsNext refusal.kind primary items rest refusal.at

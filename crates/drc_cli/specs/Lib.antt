@@ -5,9 +5,8 @@ pub mod DeckAnswer
 pub mod Layout
 pub mod LayoutReading
 pub mod LayoutEnds
-pub mod Sweep
 pub mod Text
-pub mod Sides
+pub mod ShortRuns
 pub mod Command
 pub mod Read
 pub mod Whole

@@ -23,7 +23,8 @@ IsCounted check status.Done old new = NoneFailed old new × RoseBy 3 old.begun n
 IsCounted check (status.Deck refusal) old new =
     (new.read_faults ≡ old.read_faults) × (new.write_faults ≡ old.write_faults) × RoseBy 1 old.begun new.begun
     × (new.opened ≡ check.deck)
-IsCounted check (status.Layout refusal) old new = (new.write_faults ≡ old.write_faults) × RoseBy 2 old.begun new.begun
+IsCounted check (status.Layout refusal) old new =
+    (new.read_faults ≡ old.read_faults) × (new.write_faults ≡ old.write_faults) × RoseBy 2 old.begun new.begun
 IsCounted check (status.ReadFault which.Deck) old new =
     Rose old.read_faults new.read_faults × RoseBy 1 old.begun new.begun × (new.opened ≡ check.deck)
 IsCounted check (status.ReadFault which.Layout) old new =

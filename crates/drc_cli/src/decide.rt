@@ -2,7 +2,6 @@
 ghost use Rattle.std.specs.Prelude.{◌≡◌, IsTrue, IfOk};
 ghost use Rattle.std.specs.List.{AllByRecursion};
 ghost use Rattle.drc_geom.specs.Squares.{IsRect};
-ghost use Rattle.drc_geom.specs.Separate.{AreSeparate};
 ghost use Rattle.drc_cli.specs.Command.{check_of};
 ghost use Rattle.drc_cli.specs.Deck.{IsFileName};
 ghost use Rattle.drc_cli.specs.Decide.{IsDecided, IsDecidedOf};
@@ -16,7 +15,7 @@ use crate::layout::{LayoutEnd, read_layout};
 use crate::read::{ReadEnd, read_whole};
 use crate::ready::Ready;
 use crate::refusal::Refusal;
-use crate::sides::short_sides;
+use crate::short_runs::short_runs;
 use crate::text::{Heading, results_text, said_text};
 use drc_geom::{Name, Rect};
 use drc_ports::Files;
@@ -79,7 +78,7 @@ fn serve<F: Files>(
 {
     match layout_rects(alloc, deck, files) {
         Err(refusal) => Err(refusal),
-        Ok(rects) => Ok(ready(alloc, date, deck, &rects)?),
+        Ok(rects) => Ok(ready(alloc, date, deck, rects)?),
     }
 }
 
@@ -94,7 +93,6 @@ fn layout_rects<F: Files>(
     ensures read { IsTrue F.tells → ReadsLayout deck.now result (F.contents files.old) }
     ensures same { IsTrue F.tells → F.contents files.new ≡ record (F.contents files.old) { left = (F.contents files.new).left } }
     ensures rects { IfOk result (λ rects. AllByRecursion IsRect rects.items) }
-    ensures apart { IfOk result (λ rects. AreSeparate rects.items) }
 {
     let file = text_of_name(alloc, deck.layout)?;
     let kept = Name::new(alloc, deck.layout)?;
@@ -114,14 +112,13 @@ fn ready(
     alloc: Global,
     date: &str,
     deck: &FirstDeck<'_>,
-    rects: &[Rect],
+    rects: Vec<Rect>,
 ) -> Result<Ready, AllocError>
     requires results { IsFileName deck.now.results.now }
-    requires rects { AllByRecursion IsRect rects.now }
-    requires apart { AreSeparate rects.now }
-    ensures { IfOk result (λ ready. IsReady date.now deck.now rects.now ready) }
+    requires rects { AllByRecursion IsRect rects.items }
+    ensures { IfOk result (λ ready. IsReady date.now deck.now rects.items ready) }
 {
-    let runs = short_sides(alloc, rects, deck.bound)?;
+    let runs = short_runs(alloc, rects, deck.bound)?;
     let heading = Heading {
         primary: deck.primary,
         check: deck.check,

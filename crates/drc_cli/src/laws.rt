@@ -13,7 +13,7 @@ pub fn one_deck()
 /// A stream that is accepted isn't refused, and one that is refused is refused for one fact.
 pub fn one_layout_answer()
     ensures accepted { (primary : List ℕ) (number : ℕ) (bytes : List ℕ) (rects : List Rect) (refusal : LayoutRefusal)
-        → Accepts primary number bytes rects → Refuses primary number bytes refusal → ⊥ }
-    ensures refused { (primary : List ℕ) (number : ℕ) (bytes : List ℕ) (one other : LayoutRefusal)
-        → Refuses primary number bytes one → Refuses primary number bytes other → one ≡ other }
+        → Accepts primary number bytes rects → Refuses primary bytes refusal → ⊥ }
+    ensures refused { (primary bytes : List ℕ) (one other : LayoutRefusal)
+        → Refuses primary bytes one → Refuses primary bytes other → one ≡ other }
 {}

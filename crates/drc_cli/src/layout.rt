@@ -2,14 +2,12 @@
 //!
 //! It reads a file in pieces, and keeps the rectangles of one layer and nothing else of it.
 
-ghost use Rattle.std.specs.Prelude.{◌≡◌, ℕ, List, length, IfOk, IsTrue, Err};
+ghost use Rattle.std.specs.Prelude.{◌≡◌, IfOk, IsTrue, Err};
 ghost use Rattle.std.specs.List.{AllByRecursion};
 ghost use Rattle.drc_geom.specs.Squares.{IsRect};
-ghost use Rattle.drc_geom.specs.Separate.{AreSeparate};
 ghost use Rattle.gds_records.specs.declared.fault.LayoutRefusal.{LayoutRefusal};
 ghost use Rattle.drc_cli.specs.Layout.{Accepts, Refuses, IsInRange};
-ghost use Rattle.drc_cli.specs.LayoutReading.{HasStopped};
-ghost use Rattle.drc_cli.specs.LayoutEnds.{CountsReads, Judges, EndsBy};
+ghost use Rattle.drc_cli.specs.LayoutEnds.{CountsReads};
 
 mod end;
 mod heading;
@@ -19,19 +17,16 @@ mod pieces;
 mod place;
 mod reader;
 
-use crate::separate::first_touching;
 use drc_geom::Rect;
 use drc_ports::Files;
 pub use end::LayoutEnd;
-use gds_records::{LayoutKind, LayoutRefusal};
 use pieces::read_all;
 use reader::{Reader, Stop};
 use std::alloc::Global;
 
 /// Reads the layout of which the file being read is at the first byte: a stream of the first form, whose structure has
-/// the primary's name. It answers the rectangles on the layer of this number, in the order of the stream, no two of
-/// which share a point; or the first fact for which the layout is refused, a read that failed before that, or want of
-/// memory.
+/// the primary's name. It answers the rectangles on the layer of this number, in the order of the stream; or the first
+/// fact for which the layout is refused, a read that failed before that, or want of memory.
 pub fn read_layout<F: Files>(
     alloc: Global,
     files: &mut F,
@@ -41,51 +36,19 @@ pub fn read_layout<F: Files>(
     requires started { IsTrue (F.tally files.old).started }
     ensures accepted { IsTrue F.tells → IfOk result (λ rects. Accepts primary.now number (F.contents files.old).left rects.items) }
     ensures refused { IsTrue F.tells → (r : LayoutRefusal) → result ≡ Err (LayoutEnd.Refused r)
-        → Refuses primary.now number (F.contents files.old).left r }
+        → Refuses primary.now (F.contents files.old).left r }
     ensures same { IsTrue F.tells → F.contents files.new ≡ record (F.contents files.old) { left = (F.contents files.new).left } }
     ensures counts { CountsReads result (F.tally files.old) (F.tally files.new) }
     ensures areas { IfOk result (λ rects. AllByRecursion IsRect rects.items) }
     ensures range { IfOk result (λ rects. AllByRecursion IsInRange rects.items) }
-    ensures separate { IfOk result (λ rects. AreSeparate rects.items) }
 {
     let mut reader = Reader::new(alloc);
     let stop = read_all(alloc, files, &mut reader, primary, number)?;
-    let Reader { rects, offsets, .. } = reader;
-    judge(alloc, rects, &offsets, stop)
-}
-
-// What is answered where the reading has ended so: a rectangle that touches an earlier one comes first.
-fn judge(
-    alloc: Global,
-    rects: Vec<Rect>,
-    offsets: &[u64],
-    stop: Stop,
-) -> Result<Vec<Rect>, LayoutEnd>
-    requires areas { AllByRecursion IsRect rects.items }
-    requires paired { length rects.items ≡ length offsets.now }
-    ensures judges { (primary : List ℕ) (number : ℕ) (bytes : List ℕ)
-        → HasStopped primary number bytes rects.items offsets.now stop → Judges primary number bytes result }
-    ensures same { IfOk result (λ answer. answer.items ≡ rects.items) }
-    ensures separate { IfOk result (λ answer. AreSeparate answer.items) }
-    ensures ends { EndsBy stop result }
-{
-    if let Some(touching) = first_touching(alloc, &rects)? {
-        return Err(not_built(offsets[touching]));
-    }
     match stop {
-        Stop::Ended => Ok(rects),
+        Stop::Ended => Ok(reader.rects),
         Stop::Refused(refusal) => Err(LayoutEnd::Refused(refusal)),
         Stop::ReadFault => Err(LayoutEnd::ReadFault),
     }
-}
-
-fn not_built(at: u64) -> LayoutEnd
-    ensures { result ≡ LayoutEnd.Refused (record { at = at; kind = LayoutKind.NotBuilt }) }
-{
-    LayoutEnd::Refused(LayoutRefusal {
-        at,
-        kind: LayoutKind::NotBuilt,
-    })
 }
 
 #[cfg(test)]

@@ -3,7 +3,7 @@
 //! ```text
 //! words ─ command ─┬─ deck bytes ─ deck ──────────────┐
 //!                  ├─ layout bytes ─ layout ─ rectangles of the layer
-//!                  └─ rectangles ─ sides ─ runs ─ text ─ results file, and the line that is said
+//!                  └─ rectangles ─ short_runs ─ runs ─ text ─ results file, and the line that is said
 //! ```
 //!
 //! `run` is all that the program does. Deck, layout and text are read and made by private modules, of which each has
@@ -22,8 +22,7 @@ mod read;
 mod ready;
 mod refusal;
 mod refuse;
-mod separate;
-mod sides;
+mod short_runs;
 mod text;
 mod top;
 mod whole;

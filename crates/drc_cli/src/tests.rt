@@ -12,7 +12,11 @@ use std::thread::Threads;
 const DECK: &[u8] =
     b"LAYOUT SYSTEM GDSII\nLAYOUT PATH \"a.gds\"\nLAYOUT PRIMARY TOP\nDRC RESULTS DATABASE \"a.db\" ASCII\nLAYER M1 1\nLAYER M2 2\nSHORT { @ short edge\nLENGTH M1 < 0.2\n}\n";
 
-/// The stream up to the first element, of one rectangle from (0, 0) to (100, 300) on layer 1, and of the end.
+/// As DECK, with other names and a bound of 250 units.
+const OTHER_DECK: &[u8] =
+    b"LAYOUT SYSTEM GDSII\nLAYOUT PATH \"a.gds\"\nLAYOUT PRIMARY TOP\nDRC RESULTS DATABASE \"a.db\" ASCII\nLAYER M1 1\nR { @ n\nLENGTH M1 < 0.25\n}\n";
+
+/// The stream up to the first element, an element on layer 1 up to its coordinates, and the end of the stream.
 const HEAD: [u8; 98] = [
     0, 6, 0, 2, 2, 88, 0, 28, 1, 2, 0, 0, 0, 0, 0, 0, 0, 0, 0, 0, 0, 0, 0, 0, 0, 0, 0, 0, 0, 0, 0,
     0, 0, 0, 0, 8, 2, 6, 76, 73, 66, 0, 0, 20, 3, 5, 62, 65, 137, 55, 75, 198, 167, 240, 57, 68,
@@ -20,18 +24,31 @@ const HEAD: [u8; 98] = [
     0, 0, 0, 0, 0, 0, 0, 8, 6, 6, 84, 79, 80, 0,
 ];
 
-const RECTANGLE: [u8; 64] = [
-    0, 4, 8, 0, 0, 6, 13, 2, 0, 1, 0, 6, 14, 2, 0, 0, 0, 44, 16, 3, 0, 0, 0, 0, 0, 0, 0, 0, 0, 0,
-    0, 100, 0, 0, 0, 0, 0, 0, 0, 100, 0, 0, 1, 44, 0, 0, 0, 0, 0, 0, 1, 44, 0, 0, 0, 0, 0, 0, 0, 0,
-    0, 4, 17, 0,
+const ELEMENT: [u8; 20] = [
+    0, 4, 8, 0, 0, 6, 13, 2, 0, 1, 0, 6, 14, 2, 0, 0, 0, 44, 16, 3,
 ];
 
 const TAIL: [u8; 8] = [0, 4, 7, 0, 0, 4, 4, 0];
+
+/// A rectangle's x0, y0, x1 and y1, of its lower left and its upper right corner.
+type Corners = [i32; 4];
+
+const BAR: Corners = [0, 0, 100, 300];
 
 const SHORT: &[u8] =
     b"TOP 1000\nSHORT\n2 2 1 T1\nshort edge\ne 1 1\n0 0 100 0\ne 2 1\n0 300 100 300\n";
 
 const NONE: &[u8] = b"TOP 1000\nSHORT\n0 0 1 T1\nshort edge\n";
+
+/// What OTHER_DECK means for a rectangle that is 200 or 100 units wide and 300 high, and for two squares at a corner.
+const WIDE: &[u8] = b"TOP 1000\nR\n2 2 1 T1\nn\ne 1 1\n0 0 200 0\ne 2 1\n0 300 200 300\n";
+
+const NARROW: &[u8] = b"TOP 1000\nR\n2 2 1 T1\nn\ne 1 1\n0 0 100 0\ne 2 1\n0 300 100 300\n";
+
+const AT_A_CORNER: &[u8] =
+    b"TOP 1000\nR\n8 8 1 T1\nn\ne 1 1\n0 0 100 0\ne 2 1\n0 0 0 100\ne 3 1\n100 0 100 100\ne 4 1\n0 100 100 100\ne 5 1\n100 100 200 100\ne 6 1\n100 100 100 200\ne 7 1\n200 100 200 200\ne 8 1\n100 200 200 200\n";
+
+const TWO_FOUND: &[u8] = b"checks 1 found 2 written 2\n";
 
 const CHECK: &str = "check --date T1 a.svrf";
 
@@ -74,10 +91,19 @@ fn failing(alloc: Global, call: Option<(CallKind, u64)>) -> Result<Vec<Planned>,
     Ok(fails)
 }
 
-fn stream(alloc: Global, elements: &[[u8; 64]]) -> Result<Vec<u8>, AllocError> {
+fn put_rectangle(stream: &mut Vec<u8>, corners: &Corners) -> Result<(), AllocError> {
+    let [x0, y0, x1, y1] = *corners;
+    stream.extend_from_slice(&ELEMENT)?;
+    for coordinate in [x0, y0, x1, y0, x1, y1, x0, y1, x0, y0] {
+        stream.extend_from_slice(&coordinate.to_be_bytes())?;
+    }
+    stream.extend_from_slice(&[0, 4, 17, 0])
+}
+
+fn stream(alloc: Global, rectangles: &[Corners]) -> Result<Vec<u8>, AllocError> {
     let mut bytes = Vec::from_slice(alloc, &HEAD)?;
-    for element in elements {
-        bytes.extend_from_slice(element)?;
+    for corners in rectangles {
+        put_rectangle(&mut bytes, corners)?;
     }
     bytes.extend_from_slice(&TAIL)?;
     Ok(bytes)
@@ -105,12 +131,13 @@ struct Wanted {
 fn expect<R: Threads + Wait + Sync + Abort>(
     rt: &R,
     alloc: Global,
+    deck: &[u8],
     layout: &[u8],
     call: Option<(CallKind, u64)>,
     wanted: Wanted,
 ) -> Result<(), AllocError> {
     let fails = failing(alloc, call)?;
-    let mut files = files_of(alloc, DECK, layout, 80, fails)?;
+    let mut files = files_of(alloc, deck, layout, 80, fails)?;
     let answer = answer_of(rt, alloc, CHECK, &mut files)?;
     let name = Name::new(alloc, b"a.db")?;
     assert!(rt; answer == wanted.status, "{answer:?}");
@@ -122,13 +149,13 @@ fn expect<R: Threads + Wait + Sync + Abort>(
 #[test]
 fn the_short_sides_of_a_rectangle(rt: HostRuntime) -> Result<(), Fail> {
     let alloc = rt.alloc();
-    let layout = stream(alloc, &[RECTANGLE])?;
+    let layout = stream(alloc, &[BAR])?;
     let wanted = Wanted {
         status: Status::Done,
         results: Some(SHORT),
-        said: b"checks 1 found 2 written 2\n",
+        said: TWO_FOUND,
     };
-    expect(&rt, alloc, &layout, None, wanted)?;
+    expect(&rt, alloc, DECK, &layout, None, wanted)?;
     Ok(())
 }
 
@@ -141,7 +168,36 @@ fn a_layout_without_elements(rt: HostRuntime) -> Result<(), Fail> {
         results: Some(NONE),
         said: b"checks 1 found 0 written 0\n",
     };
-    expect(&rt, alloc, &layout, None, wanted)?;
+    expect(&rt, alloc, DECK, &layout, None, wanted)?;
+    Ok(())
+}
+
+#[test]
+fn the_short_sides_of_rectangles_that_meet(rt: HostRuntime) -> Result<(), Fail> {
+    let alloc = rt.alloc();
+    let rows: [([Corners; 2], &'static [u8], &'static [u8]); 4] = [
+        // along a side
+        ([BAR, [100, 0, 200, 300]], WIDE, TWO_FOUND),
+        // one is the other
+        ([BAR, BAR], NARROW, TWO_FOUND),
+        // one inside the other
+        ([[0, 0, 200, 300], [50, 50, 60, 60]], WIDE, TWO_FOUND),
+        // at a corner alone
+        (
+            [[0, 0, 100, 100], [100, 100, 200, 200]],
+            AT_A_CORNER,
+            b"checks 1 found 8 written 8\n",
+        ),
+    ];
+    for (rectangles, results, said) in rows {
+        let layout = stream(alloc, &rectangles)?;
+        let wanted = Wanted {
+            status: Status::Done,
+            results: Some(results),
+            said,
+        };
+        expect(&rt, alloc, OTHER_DECK, &layout, None, wanted)?;
+    }
     Ok(())
 }
 
@@ -156,51 +212,61 @@ fn layout_refused(at: u64, kind: LayoutKind, said: &'static [u8]) -> Wanted {
 #[test]
 fn layouts_that_are_cut(rt: HostRuntime) -> Result<(), Fail> {
     let alloc = rt.alloc();
-    let layout = stream(alloc, &[RECTANGLE])?;
+    let layout = stream(alloc, &[BAR])?;
     for (length, said) in [
         (130, b"layout 2 at 130 Truncated\n".as_slice()),
         (166, b"layout 2 at 166 Truncated\n".as_slice()),
     ] {
         let cut = &layout.as_slice()[..layout.len().min(length)];
         let wanted = layout_refused(length as u64, LayoutKind::Truncated, said);
-        expect(&rt, alloc, cut, None, wanted)?;
+        expect(&rt, alloc, DECK, cut, None, wanted)?;
     }
-    Ok(())
-}
-
-/// The fourth piece of the layout isn't read, and the second of three rectangles on one place stands before it.
-#[test]
-fn a_read_that_fails_after_rectangles_that_touch(rt: HostRuntime) -> Result<(), Fail> {
-    let alloc = rt.alloc();
-    let layout = stream(alloc, &[RECTANGLE, RECTANGLE, RECTANGLE])?;
-    let wanted = layout_refused(178, LayoutKind::NotBuilt, b"layout 90 at 178 NotBuilt\n");
-    expect(&rt, alloc, &layout, Some((CallKind::Read, 7)), wanted)?;
     Ok(())
 }
 
 #[test]
 fn a_write_that_fails(rt: HostRuntime) -> Result<(), Fail> {
     let alloc = rt.alloc();
-    let layout = stream(alloc, &[RECTANGLE])?;
+    let layout = stream(alloc, &[BAR])?;
     let wanted = Wanted {
         status: Status::WriteFault(Which::Results),
         results: Some(b"TOP 1000\nS"),
         said: b"write a.db\n",
     };
-    expect(&rt, alloc, &layout, Some((CallKind::Write, 2)), wanted)?;
+    expect(
+        &rt,
+        alloc,
+        DECK,
+        &layout,
+        Some((CallKind::Write, 2)),
+        wanted,
+    )?;
     Ok(())
 }
 
+/// The second piece of the deck isn't read, or the third of the layout.
 #[test]
 fn a_read_that_fails(rt: HostRuntime) -> Result<(), Fail> {
     let alloc = rt.alloc();
-    let layout = stream(alloc, &[RECTANGLE])?;
-    let wanted = Wanted {
-        status: Status::ReadFault(Which::Deck),
-        results: None,
-        said: b"read a.svrf\n",
-    };
-    expect(&rt, alloc, &layout, Some((CallKind::Read, 2)), wanted)?;
+    let layout = stream(alloc, &[BAR, BAR, BAR])?;
+    for (nth, file, said) in [
+        (2, Which::Deck, b"read a.svrf\n".as_slice()),
+        (7, Which::Layout, b"read a.gds\n".as_slice()),
+    ] {
+        let wanted = Wanted {
+            status: Status::ReadFault(file),
+            results: None,
+            said,
+        };
+        expect(
+            &rt,
+            alloc,
+            DECK,
+            &layout,
+            Some((CallKind::Read, nth)),
+            wanted,
+        )?;
+    }
     Ok(())
 }
 

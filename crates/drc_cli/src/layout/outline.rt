@@ -1,8 +1,9 @@
 //! The five points of a rectangle, as XY holds them.
 
 ghost use Rattle.std.specs.Prelude.{◌≡◌, ◌+◌, ◌*◌, ◌<◌, ◌≤◌, ◌↔◌, IsTrue, length};
-ghost use Rattle.drc_cli.specs.Layout.{coordinate, coordinates, corners, rect_in, IsOutline, IsInRange};
+ghost use Rattle.drc_cli.specs.Layout.{coordinate, coordinates, coordinates_of, rect_in, IsOutline, IsInRange};
 ghost use Rattle.drc_geom.specs.Squares.{IsRect};
+ghost use Rattle.drc_geom.specs.Winding.{outline};
 
 use byteorder::{BigEndian, ByteOrder};
 use drc_geom::Rect;
@@ -52,7 +53,7 @@ fn is_in_range(r: &Rect) -> bool
 
 fn goes_round(body: &[u8], r: &Rect) -> bool
     requires { length body.now ≡ 40 }
-    ensures { IsTrue result ↔ (coordinates body.now ≡ corners r.now) }
+    ensures { IsTrue result ↔ (coordinates body.now ≡ coordinates_of (outline r.now)) }
 {
     is_at(body, 0, r.x0, r.y0)
         && is_at(body, 1, r.x1, r.y0)

@@ -22,8 +22,8 @@ pub fn read_all<F: Files>(
     number: u16,
 ) -> Result<Stop, AllocError>
     requires started { IsTrue (F.tally files.old).started }
-    requires fresh { IsWanting primary.now number [] reader.old.framer reader.old.place reader.old.rects.items reader.old.offsets.items }
-    ensures stopped { ReadsAll primary.now number F.tells (F.contents files.old).left result reader.new.rects.items reader.new.offsets.items }
+    requires fresh { IsWanting primary.now number [] reader.old.framer reader.old.place reader.old.rects.items }
+    ensures stopped { ReadsAll primary.now number F.tells (F.contents files.old).left result reader.new.rects.items }
     ensures same { IsTrue F.tells → F.contents files.new ≡ record (F.contents files.old) { left = (F.contents files.new).left } }
     ensures counts { F.tally files.new ≡ reading_tally result (F.tally files.old) }
 {
@@ -46,8 +46,8 @@ fn read_pieces<F: Files>(
 ) -> Result<Stop, AllocError>
     requires started { IsTrue (F.tally files.old).started }
     requires room { 0 < length piece.old }
-    requires fresh { IsWanting primary.now number [] reader.old.framer reader.old.place reader.old.rects.items reader.old.offsets.items }
-    ensures stopped { ReadsAll primary.now number F.tells (F.contents files.old).left result reader.new.rects.items reader.new.offsets.items }
+    requires fresh { IsWanting primary.now number [] reader.old.framer reader.old.place reader.old.rects.items }
+    ensures stopped { ReadsAll primary.now number F.tells (F.contents files.old).left result reader.new.rects.items }
     ensures same { IsTrue F.tells → F.contents files.new ≡ record (F.contents files.old) { left = (F.contents files.new).left } }
     ensures counts { F.tally files.new ≡ reading_tally result (F.tally files.old) }
 {
@@ -71,9 +71,9 @@ fn read_piece<F: Files>(
     requires started { IsTrue (F.tally files.old).started }
     requires room { 0 < length piece.old }
     ensures read { (fed : List ℕ)
-        → IsWanting primary.now number fed reader.old.framer reader.old.place reader.old.rects.items reader.old.offsets.items
+        → IsWanting primary.now number fed reader.old.framer reader.old.place reader.old.rects.items
         → ReadsPiece primary.now number F.tells fed (F.contents files.old).left (F.contents files.new).left result
-        reader.new.framer reader.new.place reader.new.rects.items reader.new.offsets.items }
+        reader.new.framer reader.new.place reader.new.rects.items }
     ensures same { IsTrue F.tells → F.contents files.new ≡ record (F.contents files.old) { left = (F.contents files.new).left } }
     ensures counts { F.tally files.new ≡ piece_tally result (F.tally files.old) }
 {

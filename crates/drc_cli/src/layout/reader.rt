@@ -4,7 +4,7 @@ ghost use Rattle.std.specs.Prelude.{◌≡◌, ◌≢◌, ◌<◌, ◌++◌, ℕ
 ghost use Rattle.gds_records.specs.Records.{Item};
 ghost use Rattle.gds_records.specs.Stream.{item_of, start_of_stream};
 ghost use Rattle.drc_cli.specs.Layout.{Stands, following, drawn_at, rects_on};
-ghost use Rattle.drc_cli.specs.LayoutReading.{offsets_on, end_of_reading, IsAt, Steps, TakesAll};
+ghost use Rattle.drc_cli.specs.LayoutReading.{end_of_reading, IsAt, Steps, TakesAll};
 
 use super::outline::rect_in;
 use super::place::Place;
@@ -17,7 +17,7 @@ use std::alloc::{AllocError, Global};
 pub enum Stop {
     /// ENDLIB was taken.
     Ended,
-    /// The first fact for which the layout is refused, two rectangles that touch left aside.
+    /// The first fact for which the layout is refused.
     Refused(LayoutRefusal),
     /// A read failed.
     ReadFault,
@@ -34,14 +34,12 @@ pub enum Step {
     Stopped(Stop),
 }
 
-/// The records so far: what is left of the bytes, the place of the next record, and the rectangles of the layer with
-/// the offsets of their XY.
+/// The records so far: what is left of the bytes, the place of the next record, and the rectangles of the layer.
 #[derive(Drop)]
 pub struct Reader {
     pub framer: Framer,
     pub place: Place,
     pub rects: Vec<Rect>,
-    pub offsets: Vec<u64>,
 }
 
 impl Reader {
@@ -50,13 +48,11 @@ impl Reader {
         ensures framer { result.framer ≡ start_of_stream }
         ensures place { result.place ≡ Place.Header }
         ensures rects { result.rects.items ≡ [] }
-        ensures offsets { result.offsets.items ≡ [] }
     {
         Reader {
             framer: Framer::new(alloc),
             place: Place::Header,
             rects: Vec::new(alloc),
-            offsets: Vec::new(alloc),
         }
     }
 
@@ -65,8 +61,8 @@ impl Reader {
     pub fn take_all(&mut self, primary: &[u8], number: u16) -> Result<Option<Stop>, AllocError>
         ensures reads_none { result ≢ Ok (Some Stop.ReadFault) }
         ensures taken { (fed : List ℕ) (items : List Item)
-            → IsAt primary.now number fed items self.old.framer self.old.place self.old.rects.items self.old.offsets.items
-            → TakesAll primary.now number fed result self.new.framer self.new.place self.new.rects.items self.new.offsets.items }
+            → IsAt primary.now number fed items self.old.framer self.old.place self.old.rects.items
+            → TakesAll primary.now number fed result self.new.framer self.new.place self.new.rects.items }
     {
         loop {
             match self.step(primary, number)? {
@@ -90,8 +86,8 @@ impl Reader {
     // Takes the next record, if it is whole.
     fn step(&mut self, primary: &[u8], number: u16) -> Result<Step, AllocError>
         ensures taken { (fed : List ℕ) (items : List Item)
-            → IsAt primary.now number fed items self.old.framer self.old.place self.old.rects.items self.old.offsets.items
-            → Steps primary.now number fed result self.new.framer self.new.place self.new.rects.items self.new.offsets.items }
+            → IsAt primary.now number fed items self.old.framer self.old.place self.old.rects.items
+            → Steps primary.now number fed result self.new.framer self.new.place self.new.rects.items }
         ensures reads_none { result ≢ Ok (Step.Stopped Stop.ReadFault) }
         ensures less { result ≡ Ok Step.Taken → length self.new.framer.left < length self.old.framer.left }
     {
@@ -123,8 +119,6 @@ impl Reader {
         ensures place { IfOk result (λ stood. IsTrue stood → self.new.place ≡ following self.old.place (item_of taken.now)) }
         ensures rects { IfOk result (λ stood. IsTrue stood
             → self.new.rects.items ≡ self.old.rects.items ++ rects_on number (drawn_at self.old.place (item_of taken.now))) }
-        ensures offsets { IfOk result (λ stood. IsTrue stood
-            → self.new.offsets.items ≡ self.old.offsets.items ++ offsets_on number (drawn_at self.old.place (item_of taken.now))) }
         ensures refused { IfOk result (λ stood. stood ≡ false → Stands primary.now self.old.place (item_of taken.now) → ⊥) }
         ensures same { IfOk result (λ stood. stood ≡ false → self.new ≡ self.old) }
     {
@@ -133,7 +127,6 @@ impl Reader {
         }
         if self.place.is_points_on(number) {
             self.rects.push(rect_in(&taken.body))?;
-            self.offsets.push(taken.at)?;
         }
         self.place = self.place.following(taken);
         Ok(true)

@@ -95,8 +95,9 @@ fn reads_elements(rt: HostRuntime) -> Result<(), Fail> {
             "corners touch",
             (1, bar),
             (1, outline(100, 300, 200, 400)),
-            not_built(178),
+            Some(Ok(2)),
         ),
+        ("given twice", (1, bar), (1, bar), Some(Ok(2))),
         (
             "clockwise",
             (1, [0, 0, 0, 300, 100, 300, 100, 0, 0, 0]),

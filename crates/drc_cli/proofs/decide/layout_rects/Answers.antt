@@ -12,5 +12,5 @@ returns-in-Err-Refused-clause-read g c = λ told.
     let refused = c.in-Err-Refused.ensures.refused told c.in-Err-Refused.refusal (ap (λ (e : LayoutEnd). Err e) c.in-Err-Refused.field-0-is) in (
       begun.0,
       subst (λ (name : List ℕ). old.held name ≡ Some begun.0) c.in_ok-file.ensures begun.1,
-      subst (λ (bytes : List ℕ). Refuses c.args.deck.now.primary.now c.args.deck.now.number bytes c.in-Err-Refused.refusal) (ap (λ (x : Contents). x.left) begun.2) refused,
+      subst (λ (bytes : List ℕ). Refuses c.args.deck.now.primary.now bytes c.in-Err-Refused.refusal) (ap (λ (x : Contents). x.left) begun.2) refused,
     )

@@ -5,4 +5,4 @@ pub returns-clause-accepted : goal.returns-clause-accepted
 returns-clause-accepted c = λ primary number bytes rects refusal accepts refuses. accepted_not_refused primary number bytes rects refusal accepts refuses
 
 pub returns-clause-refused : goal.returns-clause-refused
-returns-clause-refused c = λ primary number bytes one other p q. one_refusal primary number bytes one other p q
+returns-clause-refused c = λ primary bytes one other p q. one_refusal primary bytes one other p q

@@ -6,31 +6,18 @@ use Rattle.drc_cli.specs.declared.layout.reader.Reader.{Reader}
 use Rattle.drc_cli.specs.Layout.{Element, rect_in}
 use Rattle.drc_cli.proofs.LayoutPlaces.{here, elsewhere}
 use Rattle.drc_cli.proofs.layout.reader.Reader.accept.Goals as goal
-use Rattle.drc_cli.proofs.layout.reader.Reader.accept.Goals.{then-is_points_on+in_ok-push+in_ok-push-2, else-is_points_on}
+use Rattle.drc_cli.proofs.layout.reader.Reader.accept.Goals.{then-is_points_on+in_ok-push, else-is_points_on}
 
 pub returns-clause-rects : goal.returns-clause-rects
 returns-clause-rects c =
     let had = c.args.self.now.rects.items in
     let with_more = λ (elements : List Element). had ++ map (λ element. element.rect) elements in
     elim c.if-is_points_on.branch [
-      | then-is_points_on+in_ok-push+in_ok-push-2 w ↦ λ _.
+      | then-is_points_on+in_ok-push w ↦ λ _.
           let rect : w.rect_in.result ≡ rect_in c.args.taken.now.body.items = w.rect_in.ensures ∙ ap rect_in w.deref.ensures.value in
           ap (λ (r : Reader). r.rects.items) w.self-is ∙ w.in_ok-push.ensures.items ∙ ap (λ (r : Rect). had ++ r ∷ []) rect
           ∙ ap with_more (sym (here c.args.number c.args.self.now.place (item_of c.args.taken.now) w.if-is_points_on.ensures))
       | else-is_points_on w ↦ λ _.
           ap (λ (r : Reader). r.rects.items) w.self-is ∙ sym (append-nil had)
-          ∙ ap with_more (sym (elsewhere c.args.number c.args.self.now.place (item_of c.args.taken.now) w.if-is_points_on.ensures))
-    ]
-
-pub returns-clause-offsets : goal.returns-clause-offsets
-returns-clause-offsets c =
-    let had = c.args.self.now.offsets.items in
-    let with_more = λ (elements : List Element). had ++ map (λ element. element.at) elements in
-    elim c.if-is_points_on.branch [
-      | then-is_points_on+in_ok-push+in_ok-push-2 w ↦ λ _.
-          ap (λ (r : Reader). r.offsets.items) w.self-is ∙ w.in_ok-push-2.ensures.items
-          ∙ ap with_more (sym (here c.args.number c.args.self.now.place (item_of c.args.taken.now) w.if-is_points_on.ensures))
-      | else-is_points_on w ↦ λ _.
-          ap (λ (r : Reader). r.offsets.items) w.self-is ∙ sym (append-nil had)
           ∙ ap with_more (sym (elsewhere c.args.number c.args.self.now.place (item_of c.args.taken.now) w.if-is_points_on.ensures))
     ]

@@ -16,11 +16,11 @@ returns-then-branch-clause-taken c = λ fed items state.
     let yes : IsTrue c.in_ok-accept-in-Ok-Some.field-0 = search rules in
     let same = c.accept.ensures.framer in (
       items ++ item ∷ [],
-      when_taken c.args.primary.now c.args.number fed items old.framer old.place old.rects.items old.offsets.items state
+      when_taken c.args.primary.now c.args.number fed items old.framer old.place old.rects.items state
           item c.take.new.self.left took.0 took.1 took.2 took.3
-          c.accept.new.self.framer c.accept.new.self.place c.accept.new.self.rects.items c.accept.new.self.offsets.items
+          c.accept.new.self.framer c.accept.new.self.place c.accept.new.self.rects.items
           (ap (λ (s : Stream). s.at) same ∙ took.4) (ap (λ (s : Stream). s.left) same) (ap (λ (s : Stream). s.ended) same ∙ took.5)
-          (went.stands yes) (went.place yes) (went.rects yes) (went.offsets yes),
+          (went.stands yes) (went.place yes) (went.rects yes),
     )
 
 pub returns-in-Ok-Some-clause-taken : goal.returns-in-Ok-Some-clause-taken
@@ -29,8 +29,8 @@ returns-in-Ok-Some-clause-taken c = λ fed items state.
     let item = item_of c.in-Ok-Some.taken in
     let took = rw c.in-Ok-Some.field-0-is at c.in-Ok-Some.ensures in
     let went = c.in_ok-accept-in-Ok-Some.ensures in
-    let P : Reader → Type 0 = λ r. (more : List ℕ) → HasStopped c.args.primary.now c.args.number (fed ++ more) r.rects.items r.offsets.items
+    let P : Reader → Type 0 = λ r. (more : List ℕ) → HasStopped c.args.primary.now c.args.number (fed ++ more) r.rects.items
     (Refused (record { at = item.at; kind = kinds.NotBuilt })) in
-    let stopped = when_not_built c.args.primary.now c.args.number fed items old.framer old.place old.rects.items old.offsets.items state
+    let stopped = when_not_built c.args.primary.now c.args.number fed items old.framer old.place old.rects.items state
     item c.take.new.self.left took.0 took.1 took.2 took.3 (went.refused c.if-branch.false) in
     rw c.not_built.ensures (subst P (sym (went.same c.if-branch.false)) stopped)

@@ -8,19 +8,19 @@ pub loop-stop-preserved : goal.loop-stop-preserved
 loop-stop-preserved c = λ fed items state.
     let now = c.loop-stop.invariant fed items state in
     let new = c.step.new.self in
-    let P : Step → Type 0 = λ s. Steps c.args.primary.now c.args.number fed (Ok s) new.framer new.place new.rects.items new.offsets.items in
+    let P : Step → Type 0 = λ s. Steps c.args.primary.now c.args.number fed (Ok s) new.framer new.place new.rects.items in
     subst P c.in-Taken.is (c.in_ok-step.ensures.taken fed now.0 now.1)
 
 pub returns-in-Wanting-clause-taken : goal.returns-in-Wanting-clause-taken
 returns-in-Wanting-clause-taken c = λ fed items state.
     let now = c.loop-stop.invariant fed items state in
     let new = c.step.new.self in
-    let P : Step → Type 0 = λ s. Steps c.args.primary.now c.args.number fed (Ok s) new.framer new.place new.rects.items new.offsets.items in
+    let P : Step → Type 0 = λ s. Steps c.args.primary.now c.args.number fed (Ok s) new.framer new.place new.rects.items in
     subst P c.in-Wanting.is (c.in_ok-step.ensures.taken fed now.0 now.1)
 
 pub returns-in-Stopped-clause-taken : goal.returns-in-Stopped-clause-taken
 returns-in-Stopped-clause-taken c = λ fed items state.
     let now = c.loop-stop.invariant fed items state in
     let new = c.step.new.self in
-    let P : Step → Type 0 = λ s. Steps c.args.primary.now c.args.number fed (Ok s) new.framer new.place new.rects.items new.offsets.items in
+    let P : Step → Type 0 = λ s. Steps c.args.primary.now c.args.number fed (Ok s) new.framer new.place new.rects.items in
     subst P c.in-Stopped.is (c.in_ok-step.ensures.taken fed now.0 now.1)

@@ -1,4 +1,4 @@
--- Sides: the runs of the boundary of an area that are shorter than a bound, in database units.
+-- The runs of the boundary of an area that are shorter than a bound, in database units.
 use Rattle.std.specs.Prelude.{ℕ, ◌<ℤ◌, pos, int_lt, List, filter}
 use Rattle.drc_geom.specs.declared.run.Run.{Run}
 use Rattle.drc_geom.specs.Squares.{Squares}
