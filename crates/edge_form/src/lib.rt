@@ -13,9 +13,11 @@
 mod edge_set;
 mod gathering;
 mod lookup;
+mod maximal;
 mod same_units;
 #[cfg(test)]
 mod tests;
 
 pub use edge_set::EdgeSet;
+pub use maximal::lists_its_maximal_runs;
 pub use same_units::same_units_same_runs;

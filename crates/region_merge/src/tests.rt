@@ -159,13 +159,13 @@ fn far_corners_of_the_plane(rt: HostRuntime) -> Result<(), Fail> {
 #[test]
 fn tall_column_from_the_top_down(rt: HostRuntime) -> Result<(), Fail> {
     let mut column = Vec::new(rt.alloc());
-    for place in 0..2_000u32 {
-        let y = 2 * i64::from(1_999 - place);
+    for place in 0..524_288u32 {
+        let y = 2 * i64::from(524_287 - place);
         column.push(rect(0, y, 1, y + 1))?;
     }
     let region = union(&rt, rt.alloc(), &column)?;
     let mut want = Vec::new(rt.alloc());
-    for line in 0..4_000u32 {
+    for line in 0..1_048_576u32 {
         want.push(Flip {
             y: i64::from(line),
             x0: 0,
@@ -173,5 +173,7 @@ fn tall_column_from_the_top_down(rt: HostRuntime) -> Result<(), Fail> {
         })?;
     }
     assert_eq!(&rt; region.flips(), want.as_slice());
+    let bands = region.bands()?;
+    assert_eq!(&rt; bands.len(), 524_288);
     Ok(())
 }
