@@ -1,0 +1,2 @@
+mod Divisors
+mod Numbers

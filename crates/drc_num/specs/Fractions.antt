@@ -1,0 +1,47 @@
+-- Exact fractions. A number num / den has a den of at least 1, and two such are one number where their cross products
+-- are equal. A fraction is a number in lowest terms whose parts are at most 2^62.
+--
+--     6 / 4 and 3 / 2 are one number, since 6 * 2 = 3 * 4; the fraction of it is 3 / 2
+use Rattle.std.specs.Prelude.{◌≡◌, ℕ, ◌^◌, ◌≤◌, ◌<◌, ℤ, pos, negsuc, neg_ℤ, ◌*ℤ◌, Option, IfSome, IfNone, unsigned_abs, int_div}
+use Rattle.std.specs.Int.{IsGcd}
+
+pub record Fraction : Type 0 where
+  pub num : ℤ
+  pub den : ℕ
+
+-- the greatest part that a fraction has, above or below
+abbrev pub most : ℕ
+most = 2 ^ 62
+
+-- in lowest terms, with parts that fit
+pub record IsLowest (f : Fraction) : Type 0 where
+  pub some : 0 < f.den
+  pub lowest : IsGcd (unsigned_abs f.num) f.den 1
+  pub num_fits : unsigned_abs f.num ≤ most
+  pub den_fits : f.den ≤ most
+
+-- f is the number num / den
+abbrev pub IsNumber : (num : ℤ) (den : ℕ) → Fraction → Type 0
+IsNumber num den f = f.num *ℤ pos den ≡ num *ℤ pos f.den
+
+-- the answer is the number num / den, or none, and this only where no fraction is that number
+pub record IsExact (num : ℤ) (den : ℕ) (answer : Option Fraction) : Type 0 where
+  pub found : IfSome answer (IsNumber num den)
+  pub none : IfNone answer ((f : Fraction) → IsLowest f → IsNumber num den f → ⊥)
+
+-- den with the sign of a number
+abbrev pub with_sign_of : ℤ → (den : ℕ) → ℤ
+with_sign_of (pos n) den = pos den
+with_sign_of (negsuc n) den = neg_ℤ (pos den)
+
+-- the numerator of 1 / f, whose denominator is the size of f's numerator; for an f other than 0
+abbrev pub inverse_num : Fraction → ℤ
+inverse_num f = with_sign_of f.num f.den
+
+-- a / b and b / a over one common den, of which each is the num
+abbrev pub raised : (a b : Fraction) → ℤ
+raised a b = a.num *ℤ pos b.den
+
+-- the whole part of a / b, rounded toward 0
+abbrev pub whole_part : (a b : Fraction) → ℤ
+whole_part a b = int_div (raised a b) (raised b a)
