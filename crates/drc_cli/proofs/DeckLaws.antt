@@ -4,11 +4,12 @@ use Rattle.std.specs.Prelude.{IfSome, IsSome, unwrap_or}
 use Rattle.std.specs.Str.{bytes_eq}
 use Rattle.std.proofs.lemmas.Bool.{and_parts, not-true, not_from_false, leb-true, le-leb, eqb-true, false≢true, false_from_ne_true, both_ways}
 use Rattle.std.proofs.lemmas.List.{append-nil, nil_from_length}
-use Rattle.std.proofs.lemmas.Option.{cond_some, same_Some}
+use Rattle.std.proofs.lemmas.Option.{cond_some, none-some, same_Some}
 use Rattle.std.proofs.lemmas.Slice.Eq.{bytes_eq-Decides}
-use Rattle.drc_cli.specs.Deck.{LayerLine, Deck, input_of, before_name, layer_line, second_line, check_lines, spelling, IsName, IsLayerLine, IsFirstForm, Spells}
-use Rattle.drc_cli.specs.DeckReading.{◌>>=◌, after_words, Parts, head_at, layer_at, second_at, check_at, parts_at, choice_of, files_differ, deck_of, deck_at}
-use Rattle.drc_cli.proofs.DeckFields.{bind_some}
+use Rattle.drc_cli.specs.Deck.{longest_deck, LayerLine, Deck, input_of, before_name, layer_line, second_line, check_lines, spelling, IsName, IsLayerLine, IsFirstForm, Spells}
+use Rattle.drc_cli.specs.Working.DeckReading.{after_words, Parts, head_at, layer_at, second_at, check_at, parts_at, choice_of, files_differ, deck_of, deck_at}
+use Rattle.list_facts.specs.Attempts.{◌>>=◌}
+use Rattle.list_facts.proofs.Attempts.{found_by}
 use Rattle.drc_cli.proofs.DeckLines.{glue, HeadFits, head_text, head_takes, head_again, layer_takes, layer_again, second_takes, second_again, CheckFits, check_text, check_takes, check_again, no_layer_line}
 
 -- ---- all lines
@@ -25,10 +26,10 @@ parts_text p = head_text p.head ++ (layer_line p.first ++ (second_line p.second 
 pub parts_takes : (bytes : List ℕ) (p : Parts) → parts_at bytes ≡ Some p → (bytes ≡ parts_text p) × PartsFit p
 unfolding parts_at
 parts_takes bytes p e =
-    let s0 = bind_some (head_at bytes) (λ v0. layer_at v0.1 >>= λ v1. second_at v1.1 >>= λ v2. check_at v2.1 >>= λ v3. cond (eqb (length v3.1) 0) (Some (record { head = v0.0; first = v1.0; second = v2.0; check = v3.0 })) None) p e in
-    let s1 = bind_some (layer_at s0.0.1) (λ v1. second_at v1.1 >>= λ v2. check_at v2.1 >>= λ v3. cond (eqb (length v3.1) 0) (Some (record { head = s0.0.0; first = v1.0; second = v2.0; check = v3.0 })) None) p s0.2 in
-    let s2 = bind_some (second_at s1.0.1) (λ v2. check_at v2.1 >>= λ v3. cond (eqb (length v3.1) 0) (Some (record { head = s0.0.0; first = s1.0.0; second = v2.0; check = v3.0 })) None) p s1.2 in
-    let s3 = bind_some (check_at s2.0.1) (λ v3. cond (eqb (length v3.1) 0) (Some (record { head = s0.0.0; first = s1.0.0; second = s2.0.0; check = v3.0 })) None) p s2.2 in
+    let s0 = found_by (head_at bytes) (λ v0. layer_at v0.1 >>= λ v1. second_at v1.1 >>= λ v2. check_at v2.1 >>= λ v3. cond (eqb (length v3.1) 0) (Some (record { head = v0.0; first = v1.0; second = v2.0; check = v3.0 })) None) p e in
+    let s1 = found_by (layer_at s0.0.1) (λ v1. second_at v1.1 >>= λ v2. check_at v2.1 >>= λ v3. cond (eqb (length v3.1) 0) (Some (record { head = s0.0.0; first = v1.0; second = v2.0; check = v3.0 })) None) p s0.2 in
+    let s2 = found_by (second_at s1.0.1) (λ v2. check_at v2.1 >>= λ v3. cond (eqb (length v3.1) 0) (Some (record { head = s0.0.0; first = s1.0.0; second = v2.0; check = v3.0 })) None) p s1.2 in
+    let s3 = found_by (check_at s2.0.1) (λ v3. cond (eqb (length v3.1) 0) (Some (record { head = s0.0.0; first = s1.0.0; second = s2.0.0; check = v3.0 })) None) p s2.2 in
     let made : Parts = record { head = s0.0.0; first = s1.0.0; second = s2.0.0; check = s3.0.0 } in
     let g = cond_some (eqb (length s3.0.1) 0) made p s3.2 in
     let nothing : s3.0.1 ≡ [] = nil_from_length s3.0.1 (eqb-true (length s3.0.1) 0 g.0) in
@@ -74,9 +75,6 @@ test_cases : {A : Type 0} (b : Bool) (x y z : A) → cond b x y ≡ z → ((b �
 test_cases true x y z e = inl (refl, e)
 test_cases false x y z e = inr (refl, e)
 
-none_is_some : (o : Bool) → None ≡ Some o → ⊥
-none_is_some o e = cc
-
 second_case : (first l : LayerLine) (input : List ℕ) (o : Bool) → (first.name ≡ l.name → ⊥)
     → cond (bytes_eq input first.name) (Some false) (cond (bytes_eq input l.name) (Some true) None) ≡ Some o → Chosen first (Some l) input o
 second_case first l input o names e =
@@ -94,7 +92,7 @@ choice_takes first None input o e =
     subst (λ (y : Bool). Chosen first None input y) g.1 (record { name = sym ((bytes_eq-Decides input first.name).0 g.0); names = tt; some = λ h. absurd (false≢true h) })
 choice_takes first (Some l) input o e =
     elim (test_cases (bytes_eq first.name l.name) None (cond (bytes_eq input first.name) (Some false) (cond (bytes_eq input l.name) (Some true) None)) (Some o) e) [
-      | inl a ↦ absurd (none_is_some o a.1)
+      | inl a ↦ absurd (none-some o a.1)
       | inr b ↦ second_case first l input o (differ first.name l.name b.0) b.1
     ]
 
@@ -116,12 +114,12 @@ chosen_fits first (Some l) true f s = s.name
 pub deck_takes : (name text : List ℕ) (d : Deck) → deck_at name text ≡ Some d → Spells name text d
 unfolding deck_at files_differ
 deck_takes name text d e =
-    let a = bind_some (parts_at text) (λ p. choice_of p.first p.second p.check.input >>= λ o. cond (leb (length text) 4194304 && files_differ name p.head) (Some (deck_of p o)) None) d e in
+    let a = found_by (parts_at text) (λ p. choice_of p.first p.second p.check.input >>= λ o. cond (leb (length text) longest_deck && files_differ name p.head) (Some (deck_of p o)) None) d e in
     let p : Parts = a.0 in
-    let b = bind_some (choice_of p.first p.second p.check.input) (λ o. cond (leb (length text) 4194304 && files_differ name p.head) (Some (deck_of p o)) None) d a.2 in
+    let b = found_by (choice_of p.first p.second p.check.input) (λ o. cond (leb (length text) longest_deck && files_differ name p.head) (Some (deck_of p o)) None) d a.2 in
     let o : Bool = b.0 in
-    let g = cond_some (leb (length text) 4194304 && files_differ name p.head) (deck_of p o) d b.2 in
-    let size = and_parts (leb (length text) 4194304) (files_differ name p.head) g.0 in
+    let g = cond_some (leb (length text) longest_deck && files_differ name p.head) (deck_of p o) d b.2 in
+    let size = and_parts (leb (length text) longest_deck) (files_differ name p.head) g.0 in
     let own = and_parts (not (bytes_eq p.head.layout p.head.results)) (not (bytes_eq p.head.layout name) && not (bytes_eq p.head.results name)) size.1 in
     let others = and_parts (not (bytes_eq p.head.layout name)) (not (bytes_eq p.head.results name)) own.1 in
     let t = parts_takes text p a.1 in
@@ -143,7 +141,7 @@ deck_takes name text d e =
       note = t.1.check.note;
       bound = t.1.check.bound;
     } in
-    subst (λ (y : Deck). Spells name text y) g.1 (record { size = leb-true (length text) 4194304 size.0; form = form; spelled = spelled })
+    subst (λ (y : Deck). Spells name text y) g.1 (record { size = leb-true (length text) longest_deck size.0; form = form; spelled = spelled })
 
 -- the lines of a deck
 abbrev parts_in : Deck → Parts
@@ -169,7 +167,7 @@ deck_again name text d s =
     let own : not (bytes_eq d.layout d.results) ≡ true = not_from_false (bytes_eq d.layout d.results) (other_bytes d.layout d.results f.layout_results) in
     let one : not (bytes_eq d.layout name) ≡ true = not_from_false (bytes_eq d.layout name) (other_bytes d.layout name f.layout_deck) in
     let two : not (bytes_eq d.results name) ≡ true = not_from_false (bytes_eq d.results name) (other_bytes d.results name f.results_deck) in
-    rw (h, c, le-leb (length text) 4194304 s.size, own, one, two) refl
+    rw (h, c, le-leb (length text) longest_deck s.size, own, one, two) refl
 
 -- a text spells one deck
 pub same_deck : (name text : List ℕ) (d e : Deck) → Spells name text d → Spells name text e → d ≡ e

@@ -6,9 +6,12 @@ use Rattle.std.specs.Fmt.{decimal}
 use Rattle.std.proofs.lemmas.Bool.{and_parts, and_from, not-true, not_from_false, ltb-true, lt-ltb, eqb-false, ne_eqb, false≢true}
 use Rattle.std.proofs.lemmas.List.Sums.{AllPass-from_list_all}
 use Rattle.std.proofs.lemmas.Option.{same_Some}
-use Rattle.drc_cli.specs.Deck.{LayerLine, Decimal, before_layout, before_primary, before_results, before_layers, before_name, before_number, after_number, before_note, before_input, before_bound, after_bound, point, layer_line, second_line, fraction, heading_lines, operation_lines, check_lines, is_name_byte, is_file_byte, is_printable, is_keyword, keywords, IsName, IsFileName, IsNote, IsLayerLine, IsDecimal}
-use Rattle.drc_cli.specs.DeckReading.{after_words, ◌>>=◌, is_name, is_nonempty, is_note, word_at, file_at, note_at, layer_number_at, bound_at, Head, Check, head_at, layer_at, second_of, second_at, operation_at, check_at}
-use Rattle.drc_cli.proofs.DeckFields.{bind_some, none_from, after_takes, after_again, Stops, field_takes, field_again, same_front}
+use Rattle.drc_cli.specs.Deck.{LayerLine, Decimal, before_layout, before_primary, before_results, before_layers, before_name, before_number, after_number, before_note, before_input, before_bound, after_bound, point, layer_line, second_line, fraction, preamble_lines, operation_lines, check_lines, is_name_byte, is_file_byte, is_keyword, keywords, IsName, IsFileName, IsNote, IsLayerLine, IsDecimal}
+use Rattle.drc_cli.specs.Printable.{is_printable}
+use Rattle.drc_cli.specs.Working.DeckReading.{after_words, is_name, is_nonempty, is_note, word_at, file_at, note_at, layer_number_at, bound_at, Head, CheckLines, head_at, layer_at, second_of, second_at, operation_at, check_at}
+use Rattle.list_facts.specs.Attempts.{◌>>=◌}
+use Rattle.list_facts.proofs.Attempts.{found_by, none_unless}
+use Rattle.drc_cli.proofs.DeckFields.{after_takes, after_again, Stops, field_takes, field_again, same_front}
 use Rattle.drc_cli.proofs.DeckNumbers.{layer_number_takes, layer_number_again, bound_takes, bound_again}
 
 -- what a part's rest is, put in its place
@@ -70,11 +73,11 @@ layer_parts l rest = simp append_assoc
 pub layer_takes : (bytes : List ℕ) (l : LayerLine) (rest : List ℕ) → layer_at bytes ≡ Some (l, rest) → (bytes ≡ layer_line l ++ rest) × IsLayerLine l
 unfolding layer_at
 layer_takes bytes l rest e =
-    let s0 = bind_some (after_words before_name bytes) (λ v0. word_at v0 >>= λ v1. after_words before_number v1.1 >>= λ v2. layer_number_at v2 >>= λ v3. after_words after_number v3.1 >>= λ v4. Some (record { name = v1.0; number = v3.0 }, v4)) (l, rest) e in
-    let s1 = bind_some (word_at s0.0) (λ v1. after_words before_number v1.1 >>= λ v2. layer_number_at v2 >>= λ v3. after_words after_number v3.1 >>= λ v4. Some (record { name = v1.0; number = v3.0 }, v4)) (l, rest) s0.2 in
-    let s2 = bind_some (after_words before_number s1.0.1) (λ v2. layer_number_at v2 >>= λ v3. after_words after_number v3.1 >>= λ v4. Some (record { name = s1.0.0; number = v3.0 }, v4)) (l, rest) s1.2 in
-    let s3 = bind_some (layer_number_at s2.0) (λ v3. after_words after_number v3.1 >>= λ v4. Some (record { name = s1.0.0; number = v3.0 }, v4)) (l, rest) s2.2 in
-    let s4 = bind_some (after_words after_number s3.0.1) (λ v4. Some (record { name = s1.0.0; number = s3.0.0 }, v4)) (l, rest) s3.2 in
+    let s0 = found_by (after_words before_name bytes) (λ v0. word_at v0 >>= λ v1. after_words before_number v1.1 >>= λ v2. layer_number_at v2 >>= λ v3. after_words after_number v3.1 >>= λ v4. Some (record { name = v1.0; number = v3.0 }, v4)) (l, rest) e in
+    let s1 = found_by (word_at s0.0) (λ v1. after_words before_number v1.1 >>= λ v2. layer_number_at v2 >>= λ v3. after_words after_number v3.1 >>= λ v4. Some (record { name = v1.0; number = v3.0 }, v4)) (l, rest) s0.2 in
+    let s2 = found_by (after_words before_number s1.0.1) (λ v2. layer_number_at v2 >>= λ v3. after_words after_number v3.1 >>= λ v4. Some (record { name = s1.0.0; number = v3.0 }, v4)) (l, rest) s1.2 in
+    let s3 = found_by (layer_number_at s2.0) (λ v3. after_words after_number v3.1 >>= λ v4. Some (record { name = s1.0.0; number = v3.0 }, v4)) (l, rest) s2.2 in
+    let s4 = found_by (after_words after_number s3.0.1) (λ v4. Some (record { name = s1.0.0; number = s3.0.0 }, v4)) (l, rest) s3.2 in
     let t0 = after_takes before_name bytes s0.0 s0.1 in
     let t1 = word_takes s0.0 s1.0.0 s1.0.1 s1.1 in
     let t2 = after_takes before_number s1.0.1 s2.0 s2.1 in
@@ -109,7 +112,7 @@ second_case : (bytes : List ℕ) (o : Option (List ℕ)) (s : Option LayerLine) 
 second_case bytes None s rest e =
     subst (λ (y : Option LayerLine × List ℕ). (bytes ≡ second_line y.0 ++ y.1) × IfSome y.0 IsLayerLine) (same_Some (None, bytes) (s, rest) e) (refl, tt)
 second_case bytes (Some more) s rest e =
-    let b = bind_some (layer_at bytes) (λ l. Some (Some l.0, l.1)) (s, rest) e in
+    let b = found_by (layer_at bytes) (λ l. Some (Some l.0, l.1)) (s, rest) e in
     subst (λ (y : Option LayerLine × List ℕ). (bytes ≡ second_line y.0 ++ y.1) × IfSome y.0 IsLayerLine) (same_Some (Some b.0.0, b.0.1) (s, rest) b.2)
     (layer_takes bytes b.0.0 b.0.1 b.1)
 
@@ -126,7 +129,7 @@ second_again (Some l) rest h none =
 
 -- ---- the lines above the layers
 
-head_parts : (layout primary results rest : List ℕ) → heading_lines layout primary results ++ rest
+head_parts : (layout primary results rest : List ℕ) → preamble_lines layout primary results ++ rest
     ≡ before_layout ++ (layout ++ (before_primary ++ (primary ++ (before_results ++ (results ++ (before_layers ++ rest))))))
 head_parts layout primary results rest = simp append_assoc
 
@@ -137,18 +140,18 @@ pub record HeadFits (h : Head) : Type 0 where
   pub results : IsFileName h.results
 
 abbrev pub head_text : Head → List ℕ
-head_text h = heading_lines h.layout h.primary h.results
+head_text h = preamble_lines h.layout h.primary h.results
 
 pub head_takes : (bytes : List ℕ) (h : Head) (rest : List ℕ) → head_at bytes ≡ Some (h, rest) → (bytes ≡ head_text h ++ rest) × HeadFits h
 unfolding head_at
 head_takes bytes h rest e =
-    let s0 = bind_some (after_words before_layout bytes) (λ v0. file_at v0 >>= λ v1. after_words before_primary v1.1 >>= λ v2. word_at v2 >>= λ v3. after_words before_results v3.1 >>= λ v4. file_at v4 >>= λ v5. after_words before_layers v5.1 >>= λ v6. Some (record { layout = v1.0; primary = v3.0; results = v5.0 }, v6)) (h, rest) e in
-    let s1 = bind_some (file_at s0.0) (λ v1. after_words before_primary v1.1 >>= λ v2. word_at v2 >>= λ v3. after_words before_results v3.1 >>= λ v4. file_at v4 >>= λ v5. after_words before_layers v5.1 >>= λ v6. Some (record { layout = v1.0; primary = v3.0; results = v5.0 }, v6)) (h, rest) s0.2 in
-    let s2 = bind_some (after_words before_primary s1.0.1) (λ v2. word_at v2 >>= λ v3. after_words before_results v3.1 >>= λ v4. file_at v4 >>= λ v5. after_words before_layers v5.1 >>= λ v6. Some (record { layout = s1.0.0; primary = v3.0; results = v5.0 }, v6)) (h, rest) s1.2 in
-    let s3 = bind_some (word_at s2.0) (λ v3. after_words before_results v3.1 >>= λ v4. file_at v4 >>= λ v5. after_words before_layers v5.1 >>= λ v6. Some (record { layout = s1.0.0; primary = v3.0; results = v5.0 }, v6)) (h, rest) s2.2 in
-    let s4 = bind_some (after_words before_results s3.0.1) (λ v4. file_at v4 >>= λ v5. after_words before_layers v5.1 >>= λ v6. Some (record { layout = s1.0.0; primary = s3.0.0; results = v5.0 }, v6)) (h, rest) s3.2 in
-    let s5 = bind_some (file_at s4.0) (λ v5. after_words before_layers v5.1 >>= λ v6. Some (record { layout = s1.0.0; primary = s3.0.0; results = v5.0 }, v6)) (h, rest) s4.2 in
-    let s6 = bind_some (after_words before_layers s5.0.1) (λ v6. Some (record { layout = s1.0.0; primary = s3.0.0; results = s5.0.0 }, v6)) (h, rest) s5.2 in
+    let s0 = found_by (after_words before_layout bytes) (λ v0. file_at v0 >>= λ v1. after_words before_primary v1.1 >>= λ v2. word_at v2 >>= λ v3. after_words before_results v3.1 >>= λ v4. file_at v4 >>= λ v5. after_words before_layers v5.1 >>= λ v6. Some (record { layout = v1.0; primary = v3.0; results = v5.0 }, v6)) (h, rest) e in
+    let s1 = found_by (file_at s0.0) (λ v1. after_words before_primary v1.1 >>= λ v2. word_at v2 >>= λ v3. after_words before_results v3.1 >>= λ v4. file_at v4 >>= λ v5. after_words before_layers v5.1 >>= λ v6. Some (record { layout = v1.0; primary = v3.0; results = v5.0 }, v6)) (h, rest) s0.2 in
+    let s2 = found_by (after_words before_primary s1.0.1) (λ v2. word_at v2 >>= λ v3. after_words before_results v3.1 >>= λ v4. file_at v4 >>= λ v5. after_words before_layers v5.1 >>= λ v6. Some (record { layout = s1.0.0; primary = v3.0; results = v5.0 }, v6)) (h, rest) s1.2 in
+    let s3 = found_by (word_at s2.0) (λ v3. after_words before_results v3.1 >>= λ v4. file_at v4 >>= λ v5. after_words before_layers v5.1 >>= λ v6. Some (record { layout = s1.0.0; primary = v3.0; results = v5.0 }, v6)) (h, rest) s2.2 in
+    let s4 = found_by (after_words before_results s3.0.1) (λ v4. file_at v4 >>= λ v5. after_words before_layers v5.1 >>= λ v6. Some (record { layout = s1.0.0; primary = s3.0.0; results = v5.0 }, v6)) (h, rest) s3.2 in
+    let s5 = found_by (file_at s4.0) (λ v5. after_words before_layers v5.1 >>= λ v6. Some (record { layout = s1.0.0; primary = s3.0.0; results = v5.0 }, v6)) (h, rest) s4.2 in
+    let s6 = found_by (after_words before_layers s5.0.1) (λ v6. Some (record { layout = s1.0.0; primary = s3.0.0; results = s5.0.0 }, v6)) (h, rest) s5.2 in
     let t0 = after_takes before_layout bytes s0.0 s0.1 in
     let t1 = file_takes s0.0 s1.0.0 s1.0.1 s1.1 in
     let t2 = after_takes before_primary s1.0.1 s2.0 s2.1 in
@@ -208,11 +211,11 @@ record TakesOperation (bytes input : List ℕ) (v : Decimal) (rest : List ℕ) :
 operation_takes : (bytes input : List ℕ) (v : Decimal) (rest : List ℕ) → operation_at bytes ≡ Some (input, v, rest) → TakesOperation bytes input v rest
 unfolding operation_at
 operation_takes bytes input v rest e =
-    let s0 = bind_some (after_words before_input bytes) (λ v0. word_at v0 >>= λ v1. after_words before_bound v1.1 >>= λ v2. bound_at v2 >>= λ v3. after_words after_bound v3.1 >>= λ v4. Some (v1.0, v3.0, v4)) (input, v, rest) e in
-    let s1 = bind_some (word_at s0.0) (λ v1. after_words before_bound v1.1 >>= λ v2. bound_at v2 >>= λ v3. after_words after_bound v3.1 >>= λ v4. Some (v1.0, v3.0, v4)) (input, v, rest) s0.2 in
-    let s2 = bind_some (after_words before_bound s1.0.1) (λ v2. bound_at v2 >>= λ v3. after_words after_bound v3.1 >>= λ v4. Some (s1.0.0, v3.0, v4)) (input, v, rest) s1.2 in
-    let s3 = bind_some (bound_at s2.0) (λ v3. after_words after_bound v3.1 >>= λ v4. Some (s1.0.0, v3.0, v4)) (input, v, rest) s2.2 in
-    let s4 = bind_some (after_words after_bound s3.0.1) (λ v4. Some (s1.0.0, s3.0.0, v4)) (input, v, rest) s3.2 in
+    let s0 = found_by (after_words before_input bytes) (λ v0. word_at v0 >>= λ v1. after_words before_bound v1.1 >>= λ v2. bound_at v2 >>= λ v3. after_words after_bound v3.1 >>= λ v4. Some (v1.0, v3.0, v4)) (input, v, rest) e in
+    let s1 = found_by (word_at s0.0) (λ v1. after_words before_bound v1.1 >>= λ v2. bound_at v2 >>= λ v3. after_words after_bound v3.1 >>= λ v4. Some (v1.0, v3.0, v4)) (input, v, rest) s0.2 in
+    let s2 = found_by (after_words before_bound s1.0.1) (λ v2. bound_at v2 >>= λ v3. after_words after_bound v3.1 >>= λ v4. Some (s1.0.0, v3.0, v4)) (input, v, rest) s1.2 in
+    let s3 = found_by (bound_at s2.0) (λ v3. after_words after_bound v3.1 >>= λ v4. Some (s1.0.0, v3.0, v4)) (input, v, rest) s2.2 in
+    let s4 = found_by (after_words after_bound s3.0.1) (λ v4. Some (s1.0.0, s3.0.0, v4)) (input, v, rest) s3.2 in
     let t0 = after_takes before_input bytes s0.0 s0.1 in
     let t1 = word_takes s0.0 s1.0.0 s1.0.1 s1.1 in
     let t2 = after_takes before_bound s1.0.1 s2.0 s2.1 in
@@ -261,43 +264,43 @@ operation_again input v rest name fits =
 -- ---- the lines of the check
 
 -- the fields of the check
-pub record CheckFits (c : Check) : Type 0 where
+pub record CheckFits (c : CheckLines) : Type 0 where
   pub name : IsName c.name
   pub note : IsNote c.note
   pub input : IsName c.input
   pub bound : IsDecimal c.bound
 
-abbrev pub check_text : Check → List ℕ
+abbrev pub check_text : CheckLines → List ℕ
 check_text c = check_lines c.name c.note c.input c.bound
 
-check_parts : (c : Check) (rest : List ℕ) → check_text c ++ rest ≡ c.name ++ (before_note ++ (c.note ++ (operation_lines c.input c.bound ++ rest)))
+check_parts : (c : CheckLines) (rest : List ℕ) → check_text c ++ rest ≡ c.name ++ (before_note ++ (c.note ++ (operation_lines c.input c.bound ++ rest)))
 check_parts c rest =
     let o : List ℕ = operation_lines c.input c.bound in
     append_assoc c.name (before_note ++ (c.note ++ o)) rest
     ∙ ap (λ (x : List ℕ). c.name ++ x) (append_assoc before_note (c.note ++ o) rest ∙ ap (λ (x : List ℕ). before_note ++ x) (append_assoc c.note o rest))
 
-pub check_takes : (bytes : List ℕ) (c : Check) (rest : List ℕ) → check_at bytes ≡ Some (c, rest) → (bytes ≡ check_text c ++ rest) × CheckFits c
+pub check_takes : (bytes : List ℕ) (c : CheckLines) (rest : List ℕ) → check_at bytes ≡ Some (c, rest) → (bytes ≡ check_text c ++ rest) × CheckFits c
 unfolding check_at
 check_takes bytes c rest e =
-    let s0 = bind_some (word_at bytes) (λ v0. after_words before_note v0.1 >>= λ v1. note_at v1 >>= λ v2. operation_at v2.1 >>= λ v3. Some (record { name = v0.0; note = v2.0; input = v3.0; bound = v3.1 }, v3.2)) (c, rest) e in
-    let s1 = bind_some (after_words before_note s0.0.1) (λ v1. note_at v1 >>= λ v2. operation_at v2.1 >>= λ v3. Some (record { name = s0.0.0; note = v2.0; input = v3.0; bound = v3.1 }, v3.2)) (c, rest) s0.2 in
-    let s2 = bind_some (note_at s1.0) (λ v2. operation_at v2.1 >>= λ v3. Some (record { name = s0.0.0; note = v2.0; input = v3.0; bound = v3.1 }, v3.2)) (c, rest) s1.2 in
-    let s3 = bind_some (operation_at s2.0.1) (λ v3. Some (record { name = s0.0.0; note = s2.0.0; input = v3.0; bound = v3.1 }, v3.2)) (c, rest) s2.2 in
+    let s0 = found_by (word_at bytes) (λ v0. after_words before_note v0.1 >>= λ v1. note_at v1 >>= λ v2. operation_at v2.1 >>= λ v3. Some (record { name = v0.0; note = v2.0; input = v3.0; bound = v3.1 }, v3.2)) (c, rest) e in
+    let s1 = found_by (after_words before_note s0.0.1) (λ v1. note_at v1 >>= λ v2. operation_at v2.1 >>= λ v3. Some (record { name = s0.0.0; note = v2.0; input = v3.0; bound = v3.1 }, v3.2)) (c, rest) s0.2 in
+    let s2 = found_by (note_at s1.0) (λ v2. operation_at v2.1 >>= λ v3. Some (record { name = s0.0.0; note = v2.0; input = v3.0; bound = v3.1 }, v3.2)) (c, rest) s1.2 in
+    let s3 = found_by (operation_at s2.0.1) (λ v3. Some (record { name = s0.0.0; note = s2.0.0; input = v3.0; bound = v3.1 }, v3.2)) (c, rest) s2.2 in
     let t0 = word_takes bytes s0.0.0 s0.0.1 s0.1 in
     let t1 = after_takes before_note s0.0.1 s1.0 s1.1 in
     let t2 = note_takes s1.0 s2.0.0 s2.0.1 s2.1 in
     let t3 = operation_takes s2.0.1 s3.0.0 s3.0.1 s3.0.2 s3.1 in
-    let made : Check = record { name = s0.0.0; note = s2.0.0; input = s3.0.0; bound = s3.0.1 } in
+    let made : CheckLines = record { name = s0.0.0; note = s2.0.0; input = s3.0.0; bound = s3.0.1 } in
     let whole : bytes ≡ made.name ++ (before_note ++ (made.note ++ (operation_lines made.input made.bound ++ s3.0.2))) =
     glue made.name bytes s0.0.1 _ t0.0 (glue before_note s0.0.1 s1.0 _ t1 (glue made.note s1.0 s2.0.1 _ t2.0 t3.parts)) in
-    subst (λ (y : Check × List ℕ). (bytes ≡ check_text y.0 ++ y.1) × CheckFits y.0) (same_Some (made, s3.0.2) (c, rest) s3.2)
+    subst (λ (y : CheckLines × List ℕ). (bytes ≡ check_text y.0 ++ y.1) × CheckFits y.0) (same_Some (made, s3.0.2) (c, rest) s3.2)
     (whole ∙ sym (check_parts made s3.0.2), record { name = t0.1; note = t2.1; input = t3.input_fits; bound = t3.bound_fits })
 
 name_ends_at_note : (rest : List ℕ) → Stops is_name_byte (before_note ++ rest)
 unfolding before_note
 name_ends_at_note rest = refl
 
-pub check_again : (c : Check) (rest : List ℕ) → CheckFits c → check_at (check_text c ++ rest) ≡ Some (c, rest)
+pub check_again : (c : CheckLines) (rest : List ℕ) → CheckFits c → check_at (check_text c ++ rest) ≡ Some (c, rest)
 unfolding check_at
 check_again c rest fits =
     let r2 : List ℕ = operation_lines c.input c.bound ++ rest in
@@ -315,9 +318,9 @@ unfolding is_keyword keywords
 layer_is_keyword = refl
 
 -- a check's lines don't begin as a layer's do, since LAYER is no name
-pub no_layer_line : (c : Check) (rest : List ℕ) → IsName c.name → after_words before_name (check_text c ++ rest) ≡ None
+pub no_layer_line : (c : CheckLines) (rest : List ℕ) → IsName c.name → after_words before_name (check_text c ++ rest) ≡ None
 unfolding before_name
-no_layer_line c rest h = none_from (after_words before_name (check_text c ++ rest)) (λ x e.
+no_layer_line c rest h = none_unless (after_words before_name (check_text c ++ rest)) (λ x e.
     let more : List ℕ = c.note ++ (operation_lines c.input c.bound ++ rest) in
     let both : c.name ++ (before_note ++ more) ≡ codes "LAYER" ++ (32 ∷ x) = sym (check_parts c rest) ∙ after_takes before_name (check_text c ++ rest) x e in
     let same : c.name ≡ codes "LAYER" = same_front is_name_byte c.name (codes "LAYER") (before_note ++ more) (32 ∷ x) h.bytes (AllPass-from_list_all is_name_byte (codes "LAYER") refl) (name_ends_at_note more) refl both in

@@ -11,8 +11,10 @@ use Rattle.std.proofs.lemmas.Int.Digits.{digits_value-lt}
 use Rattle.std.proofs.lemmas.List.Elements.{All-nil}
 use Rattle.std.proofs.lemmas.Option.{cond_some, same_Some}
 use Rattle.drc_cli.specs.Deck.{Decimal, IsDecimal, point, fraction}
-use Rattle.drc_cli.specs.DeckReading.{after_words, field_at, ◌>>=◌, number_at, layer_number_at, is_numeral, is_fraction, fraction_of, fraction_at, bound_at}
-use Rattle.drc_cli.proofs.DeckFields.{bind_some, after_takes, after_again, Stops, field_takes, field_again, all_digits, digits_pass, own}
+use Rattle.drc_cli.specs.Working.DeckReading.{after_words, field_at, number_at, layer_number_at, is_numeral, is_fraction, fraction_of, fraction_at, bound_at}
+use Rattle.list_facts.specs.Attempts.{◌>>=◌}
+use Rattle.list_facts.proofs.Attempts.{found_by}
+use Rattle.drc_cli.proofs.DeckFields.{after_takes, after_again, Stops, field_takes, field_again, all_digits, digits_pass, own}
 
 numeral_plain : (most : ℕ) (ds : List ℕ) → AllPass is_ascii_digit ds → is_numeral most ds ≡ true → most ≤ 9 → (decimal (digits_value 10 ds) ≡ ds) × (digits_value 10 ds < 10 ^ most)
 unfolding is_numeral
@@ -45,7 +47,7 @@ plain_numeral most n some below wide =
 pub number_takes : (most : ℕ) (bytes : List ℕ) (n : ℕ) (rest : List ℕ) → most ≤ 9 → number_at most bytes ≡ Some (n, rest) → (bytes ≡ decimal n ++ rest) × (n < 10 ^ most)
 unfolding number_at
 number_takes most bytes n rest small e =
-    let b = bind_some (field_at is_ascii_digit (is_numeral most) bytes) (λ d. Some (digits_value 10 d.0, d.1)) (n, rest) e in
+    let b = found_by (field_at is_ascii_digit (is_numeral most) bytes) (λ d. Some (digits_value 10 d.0, d.1)) (n, rest) e in
     let t = field_takes is_ascii_digit (is_numeral most) bytes b.0.0 b.0.1 b.1 in
     let plain = numeral_plain most b.0.0 t.pass t.fit small in
     subst (λ (y : ℕ × List ℕ). (bytes ≡ decimal y.0 ++ y.1) × (y.0 < 10 ^ most)) (same_Some (digits_value 10 b.0.0, b.0.1) (n, rest) b.2)
@@ -62,7 +64,7 @@ number_again most n rest some small below stops =
 pub layer_number_takes : (bytes : List ℕ) (n : ℕ) (rest : List ℕ) → layer_number_at bytes ≡ Some (n, rest) → (bytes ≡ decimal n ++ rest) × (n < 65536)
 unfolding layer_number_at
 layer_number_takes bytes n rest e =
-    let b = bind_some (number_at 5 bytes) (λ d. cond (ltb d.0 65536) (Some d) None) (n, rest) e in
+    let b = found_by (number_at 5 bytes) (λ d. cond (ltb d.0 65536) (Some d) None) (n, rest) e in
     let g = cond_some (ltb b.0.0 65536) b.0 (n, rest) b.2 in
     let t = number_takes 5 bytes b.0.0 b.0.1 (omega arith) b.1 in
     subst (λ (y : ℕ × List ℕ). (bytes ≡ decimal y.0 ++ y.1) × (y.0 < 65536)) g.1 (t.0, ltb-true b.0.0 65536 g.0)
@@ -122,8 +124,8 @@ fraction_stops (a ∷ more) rest stops = refl
 pub bound_takes : (bytes : List ℕ) (v : Decimal) (rest : List ℕ) → bound_at bytes ≡ Some (v, rest) → (bytes ≡ decimal v.whole ++ (fraction v.fraction ++ rest)) × IsDecimal v
 unfolding bound_at
 bound_takes bytes v rest e =
-    let a = bind_some (number_at 6 bytes) (λ w. fraction_at w.1 >>= λ f. Some (record { whole = w.0; fraction = f.0 }, f.1)) (v, rest) e in
-    let b = bind_some (fraction_at a.0.1) (λ f. Some (record { whole = a.0.0; fraction = f.0 }, f.1)) (v, rest) a.2 in
+    let a = found_by (number_at 6 bytes) (λ w. fraction_at w.1 >>= λ f. Some (record { whole = w.0; fraction = f.0 }, f.1)) (v, rest) e in
+    let b = found_by (fraction_at a.0.1) (λ f. Some (record { whole = a.0.0; fraction = f.0 }, f.1)) (v, rest) a.2 in
     let n = number_takes 6 bytes a.0.0 a.0.1 (omega arith) a.1 in
     let t = fraction_takes a.0.1 b.0.0 b.0.1 b.1 in
     let made : Decimal = record { whole = a.0.0; fraction = b.0.0 } in

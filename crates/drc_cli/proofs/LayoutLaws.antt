@@ -2,68 +2,66 @@
 use Rattle.std.proofs.Common.{◌≡◌, ℕ, ◌+◌, inl, inr, List, [], ◌∷◌, ◌++◌, refl, sym, ap, subst, ◌∙◌, arith, append_assoc}
 use Rattle.std.specs.List.{flat_map}
 use Rattle.std.proofs.lemmas.List.{append-nil, append_cancel_left}
-use Rattle.drc_geom.specs.declared.rect.Rect.{Rect}
-use Rattle.gds_records.specs.Records.{Item, size_of, spelling, Cuts, end_of, EndsLibrary, ArePlaced, IsGoodLength}
+use Rattle.gds_records.specs.Records.{Item, spelling, Cuts, end_of, EndsLibrary, ComesNext}
 use Rattle.gds_records.specs.declared.fault.LayoutKind.{LayoutKind}
 use Rattle.gds_records.specs.declared.fault.LayoutKind.TheVariants as kinds
 use Rattle.gds_records.specs.declared.fault.LayoutRefusal.{LayoutRefusal}
-use Rattle.gds_records.proofs.Cutting.{same_front, cuts-fronts}
+use Rattle.gds_records.proofs.Cutting.{same_front, cuts-fronts, same_rest, comes_next}
 use Rattle.gds_records.proofs.Fronts.{whole_not_partial, whole_not_too_long, whole_not_bad_length, partial_not_too_long, partial_not_bad_length, too_long_not_bad_length}
-use Rattle.drc_cli.specs.declared.layout.place.Place.{Place}
-use Rattle.drc_cli.specs.declared.layout.place.Place.TheVariants.{Header, Elements, Layer, LibraryEnd, End}
-use Rattle.drc_cli.specs.Layout.{Element, IsBoundary, IsStructureEnd, IsLibraryEnd, AreElements, FirstForm, IsFront, AllStand, place_after, drawn_from, number_in, rect_in, LeavesForm, IsNext, Accepts, Refuses}
-use Rattle.drc_cli.proofs.LayoutPlaces.{all_stand-front}
+use Rattle.drc_cli.specs.declared.layout.slot.Slot.{Slot}
+use Rattle.drc_cli.specs.declared.layout.slot.Slot.TheVariants.{Header, Elements, Layer, LibraryEnd, End}
+use Rattle.drc_cli.specs.Layout.{Element, element_of, IsBoundary, IsStructureEnd, IsLibraryEnd, AreElements, FirstForm, IsFront, AllStand, LeavesForm, IsNext, Accepts, Refuses}
+use Rattle.drc_cli.specs.Working.LayoutReading.{slot_after, elements_from}
+use Rattle.drc_cli.proofs.LayoutSlots.{all_stand-front}
 use Rattle.drc_cli.proofs.LayoutForms.{boundary_is, structure_end_is}
-use Rattle.drc_cli.proofs.LayoutSplits.{placed-split, cuts-split}
 
--- ---- From cases to places
+-- ---- From cases to slots
 
--- the records may stand from this place on, to the end, and draw these elements
-record HasPlaces (primary : List ℕ) (place : Place) (items : List Item) (elements : List Element) : Type 0 where
-  stand : AllStand primary place items
-  ends : place_after place items ≡ End
-  drawn : elements ≡ drawn_from place items
+-- the records may stand from this slot on, to the end, and draw these elements
+record HasSlots (primary : List ℕ) (slot : Slot) (items : List Item) (elements : List Element) : Type 0 where
+  stand : AllStand primary slot items
+  ends : slot_after slot items ≡ End
+  known : elements ≡ elements_from slot items
 
-behind_boundary : (primary : List ℕ) (first : Item) (items : List Item) (elements : List Element) → IsBoundary first → HasPlaces primary Layer items elements → HasPlaces primary Elements (first ∷ items) elements
-behind_boundary primary first items elements opens places =
-    let P : Place → Type 0 = λ place. HasPlaces primary place items elements in
-    let moved = subst P (sym (boundary_is first opens)) places in
-    record { stand = (inl opens, moved.stand); ends = moved.ends; drawn = moved.drawn }
+behind_boundary : (primary : List ℕ) (first : Item) (items : List Item) (elements : List Element) → IsBoundary first → HasSlots primary Layer items elements → HasSlots primary Elements (first ∷ items) elements
+behind_boundary primary first items elements opens slots =
+    let P : Slot → Type 0 = λ slot. HasSlots primary slot items elements in
+    let moved = subst P (sym (boundary_is first opens)) slots in
+    record { stand = (inl opens, moved.stand); ends = moved.ends; known = moved.known }
 
-behind_structure_end : (primary : List ℕ) (first library : Item) → IsStructureEnd first → IsLibraryEnd library → HasPlaces primary Elements (first ∷ library ∷ []) []
+behind_structure_end : (primary : List ℕ) (first library : Item) → IsStructureEnd first → IsLibraryEnd library → HasSlots primary Elements (first ∷ library ∷ []) []
 behind_structure_end primary first library closes ends =
-    let P : Place → Type 0 = λ place. HasPlaces primary place (library ∷ []) [] in
-    let last : HasPlaces primary LibraryEnd (library ∷ []) [] = record { stand = (ends, tt); ends = refl; drawn = refl } in
+    let P : Slot → Type 0 = λ slot. HasSlots primary slot (library ∷ []) [] in
+    let last : HasSlots primary LibraryEnd (library ∷ []) [] = record { stand = (ends, tt); ends = refl; known = refl } in
     let moved = subst P (sym (structure_end_is first closes)) last in
-    record { stand = (inr closes, moved.stand); ends = moved.ends; drawn = moved.drawn }
+    record { stand = (inr closes, moved.stand); ends = moved.ends; known = moved.known }
 
-places_from_elements : (primary : List ℕ) (items : List Item) (elements : List Element) → AreElements items elements → HasPlaces primary Elements items elements
-places_from_elements primary [] elements are = absurd are
-places_from_elements primary (a ∷ []) elements are = absurd are
-places_from_elements primary (a ∷ b ∷ []) [] are = behind_structure_end primary a b are.0 are.1
-places_from_elements primary (a ∷ b ∷ []) (element ∷ elements) are = absurd are
-places_from_elements primary (a ∷ b ∷ c ∷ []) elements are = absurd are
-places_from_elements primary (a ∷ b ∷ c ∷ d ∷ []) elements are = absurd are
-places_from_elements primary (a ∷ b ∷ c ∷ d ∷ e ∷ items) [] are = absurd are
-places_from_elements primary (a ∷ b ∷ c ∷ d ∷ e ∷ items) (element ∷ elements) are =
-    let rest = places_from_elements primary items elements are.1 in
-    let known : Element = record { number = number_in b.body; rect = rect_in d.body } in
-    behind_boundary primary a (b ∷ c ∷ d ∷ e ∷ items) (element ∷ elements) are.0.opens (record {
-      stand = (are.0.on, (are.0.typed, (are.0.drawn, (are.0.closes, rest.stand))));
+slots_from_elements : (primary : List ℕ) (items : List Item) (elements : List Element) → AreElements items elements → HasSlots primary Elements items elements
+slots_from_elements primary [] elements are = absurd are
+slots_from_elements primary (a ∷ []) elements are = absurd are
+slots_from_elements primary (a ∷ b ∷ []) [] are = behind_structure_end primary a b are.0 are.1
+slots_from_elements primary (a ∷ b ∷ []) (element ∷ elements) are = absurd are
+slots_from_elements primary (a ∷ b ∷ c ∷ []) elements are = absurd are
+slots_from_elements primary (a ∷ b ∷ c ∷ d ∷ []) elements are = absurd are
+slots_from_elements primary (a ∷ b ∷ c ∷ d ∷ e ∷ items) [] are = absurd are
+slots_from_elements primary (a ∷ b ∷ c ∷ d ∷ e ∷ items) (element ∷ elements) are =
+    let rest = slots_from_elements primary items elements are.6 in
+    behind_boundary primary a (b ∷ c ∷ d ∷ e ∷ items) (element ∷ elements) are.0 (record {
+      stand = (are.1, (are.2, (are.3, (are.4, rest.stand))));
       ends = rest.ends;
-      drawn = ap (λ (x : Element). x ∷ elements) are.0.known ∙ ap (λ (xs : List Element). known ∷ xs) rest.drawn;
+      known = ap (λ (x : Element). x ∷ elements) are.5 ∙ ap (λ (xs : List Element). element_of b d ∷ xs) rest.known;
     })
 
-places_from_form : (primary : List ℕ) (items : List Item) (elements : List Element) → FirstForm primary items elements → HasPlaces primary Header items elements
-places_from_form primary [] elements form = absurd form
-places_from_form primary (a ∷ []) elements form = absurd form
-places_from_form primary (a ∷ b ∷ []) elements form = absurd form
-places_from_form primary (a ∷ b ∷ c ∷ []) elements form = absurd form
-places_from_form primary (a ∷ b ∷ c ∷ d ∷ []) elements form = absurd form
-places_from_form primary (a ∷ b ∷ c ∷ d ∷ e ∷ []) elements form = absurd form
-places_from_form primary (a ∷ b ∷ c ∷ d ∷ e ∷ f ∷ items) elements form =
-    let rest = places_from_elements primary items elements form.6 in
-    record { stand = (form.0, (form.1, (form.2, (form.3, (form.4, (form.5, rest.stand)))))); ends = rest.ends; drawn = rest.drawn }
+slots_from_form : (primary : List ℕ) (items : List Item) (elements : List Element) → FirstForm primary items elements → HasSlots primary Header items elements
+slots_from_form primary [] elements form = absurd form
+slots_from_form primary (a ∷ []) elements form = absurd form
+slots_from_form primary (a ∷ b ∷ []) elements form = absurd form
+slots_from_form primary (a ∷ b ∷ c ∷ []) elements form = absurd form
+slots_from_form primary (a ∷ b ∷ c ∷ d ∷ []) elements form = absurd form
+slots_from_form primary (a ∷ b ∷ c ∷ d ∷ e ∷ []) elements form = absurd form
+slots_from_form primary (a ∷ b ∷ c ∷ d ∷ e ∷ f ∷ items) elements form =
+    let rest = slots_from_elements primary items elements form.6 in
+    record { stand = (form.0, (form.1, (form.2, (form.3, (form.4, (form.5, rest.stand)))))); ends = rest.ends; known = rest.known }
 
 elements_end : (items : List Item) (elements : List Element) (before : Item) → AreElements items elements → EndsLibrary (before ∷ items)
 elements_end [] elements before are = absurd are
@@ -73,7 +71,7 @@ elements_end (a ∷ b ∷ []) (element ∷ elements) before are = absurd are
 elements_end (a ∷ b ∷ c ∷ []) elements before are = absurd are
 elements_end (a ∷ b ∷ c ∷ d ∷ []) elements before are = absurd are
 elements_end (a ∷ b ∷ c ∷ d ∷ e ∷ items) [] before are = absurd are
-elements_end (a ∷ b ∷ c ∷ d ∷ e ∷ items) (element ∷ elements) before are = elements_end items elements e are.1
+elements_end (a ∷ b ∷ c ∷ d ∷ e ∷ items) (element ∷ elements) before are = elements_end items elements e are.6
 
 form_ends : (primary : List ℕ) (items : List Item) (elements : List Element) → FirstForm primary items elements → EndsLibrary items
 form_ends primary [] elements form = absurd form
@@ -86,37 +84,28 @@ form_ends primary (a ∷ b ∷ c ∷ d ∷ e ∷ f ∷ items) elements form = el
 
 -- ---- Where a record of the first form follows, nothing is refused
 
-same_rest : (bytes : List ℕ) (items : List Item) (rest rest' : List ℕ) → Cuts bytes items rest → Cuts bytes items rest' → rest ≡ rest'
-same_rest bytes items rest rest' one other = append_cancel_left (flat_map spelling items) rest rest' (sym one.whole ∙ other.whole)
-
-module _ (primary : List ℕ) (items : List Item) (rest : List ℕ) (item : Item) (more : List ℕ) (text : rest ≡ spelling item ++ more)
-    (here : item.at ≡ end_of items) (good : IsGoodLength (end_of items) (size_of item)) (front : IsFront primary (items ++ item ∷ [])) where
+module _ (primary : List ℕ) (items : List Item) (rest : List ℕ) (item : Item) (more : List ℕ) (comes : ComesNext items rest item more) (front : IsFront primary (items ++ item ∷ [])) where
   follows : (kind : LayoutKind) (at : ℕ) → IsNext kind primary items rest at → ⊥
-  follows kinds.LayoutTooLong at next = whole_not_too_long (end_of items) rest item more text good next.1
-  follows kinds.BadLength at next = whole_not_bad_length (end_of items) rest item more text good next.1
-  follows kinds.Truncated at next = whole_not_partial (end_of items) rest item more text next.1
+  follows kinds.LayoutTooLong at next = whole_not_too_long (end_of items) rest item more comes.whole comes.good next.1
+  follows kinds.BadLength at next = whole_not_bad_length (end_of items) rest item more comes.whole comes.good next.1
+  follows kinds.Truncated at next = whole_not_partial (end_of items) rest item more comes.whole next.1
   follows kinds.NotBuilt at next =
-      let same = same_front item next.item more next.more (here ∙ sym next.here) (sym text ∙ next.whole) in
+      let same = same_front item next.item more next.more (comes.here ∙ sym next.next.here) (sym comes.whole ∙ next.next.whole) in
       next.leaves (subst (λ (i : Item). IsFront primary (items ++ i ∷ [])) same.0 front)
 
 goes_on : (primary : List ℕ) (bytes : List ℕ) (items : List Item) (item : Item) (after : List Item) (rest rest' : List ℕ) (kind : LayoutKind) (at : ℕ)
     → Cuts bytes items rest → Cuts bytes (items ++ item ∷ after) rest' → IsFront primary (items ++ item ∷ after) → IsNext kind primary items rest at → ⊥
 goes_on primary bytes items item after rest rest' kind at cut longer front next =
-    let placed = placed-split 0 items item after longer.placed in
-    let G : ℕ → Type 0 = λ n. IsGoodLength n (size_of item) in
-    let zero_is : 0 + end_of items ≡ end_of items = omega arith in
     let F : List Item → Type 0 = λ all. IsFront primary all in
-    follows primary items rest item (flat_map spelling after ++ rest')
-    (same_rest bytes items rest (spelling item ++ (flat_map spelling after ++ rest')) cut (cuts-split bytes items item after rest' longer))
-    (placed.here ∙ zero_is) (subst G zero_is placed.good)
+    follows primary items rest item (flat_map spelling after ++ rest') (comes_next bytes items rest item after rest' cut longer)
     (all_stand-front primary Header (items ++ item ∷ []) after (subst F (sym (append_assoc items (item ∷ []) after)) front))
     kind at next
 
 -- ---- A stream that is accepted isn't refused
 
-module _ (primary : List ℕ) (number : ℕ) (bytes : List ℕ) (rects : List Rect) (refusal : LayoutRefusal) (accepts : Accepts primary number bytes rects) (refuses : Refuses primary bytes refusal) where
+module _ (primary : List ℕ) (bytes : List ℕ) (elements : List Element) (refusal : LayoutRefusal) (accepts : Accepts primary bytes elements) (refuses : Refuses primary bytes refusal) where
   ended : EndsLibrary accepts.items
-  ended = form_ends primary accepts.items accepts.elements accepts.form
+  ended = form_ends primary accepts.items elements accepts.form
 
   not_longer : (more : List Item) → accepts.items ≡ refuses.items ++ more → ⊥
   not_longer [] same =
@@ -126,48 +115,62 @@ module _ (primary : List ℕ) (number : ℕ) (bytes : List ℕ) (rects : List Re
       let C : List Item → Type 0 = λ items. Cuts bytes items accepts.rest in
       let F : List Item → Type 0 = λ items. IsFront primary items in
       goes_on primary bytes refuses.items item after refuses.rest accepts.rest refusal.kind refusal.at refuses.cut
-      (subst C same accepts.cut) (subst F same (places_from_form primary accepts.items accepts.elements accepts.form).stand) refuses.next
+      (subst C same accepts.cut) (subst F same (slots_from_form primary accepts.items elements accepts.form).stand) refuses.next
 
   not_shorter : (more : List Item) → refuses.items ≡ accepts.items ++ more → ⊥
   not_shorter [] same =
       let E : List Item → Type 0 = λ items. EndsLibrary items in
       refuses.before_end (subst E (sym (append-nil accepts.items) ∙ sym same) ended)
   not_shorter (item ∷ after) same =
-      let P : List Item → Type 0 = λ items. ArePlaced 0 items in
-      (placed-split 0 accepts.items item after (subst P same refuses.cut.placed)).goes_on ended
+      let C : List Item → Type 0 = λ items. Cuts bytes items refuses.rest in
+      (comes_next bytes accepts.items accepts.rest item after refuses.rest accepts.cut (subst C same refuses.cut)).goes_on ended
 
   pub accepted_not_refused : ⊥
   accepted_not_refused =
       let both = cuts-fronts bytes refuses.items accepts.items refuses.rest accepts.rest refuses.cut accepts.cut in
       elim both.1 [ inl longer ↦ not_longer both.0 longer | inr shorter ↦ not_shorter both.0 shorter ]
 
+-- ---- A stream is accepted with one list of elements
+
+one_meaning : (primary bytes : List ℕ) (a b : List Element) (p : Accepts primary bytes a) (q : Accepts primary bytes b) (more : List Item) → q.items ≡ p.items ++ more → a ≡ b
+one_meaning primary bytes a b p q [] same =
+    let is : p.items ≡ q.items = sym (same ∙ append-nil p.items) in
+    (slots_from_form primary p.items a p.form).known ∙ ap (elements_from Header) is ∙ sym (slots_from_form primary q.items b q.form).known
+one_meaning primary bytes a b p q (item ∷ after) same =
+    let C : List Item → Type 0 = λ items. Cuts bytes items q.rest in
+    absurd ((comes_next bytes p.items p.rest item after q.rest p.cut (subst C same q.cut)).goes_on (form_ends primary p.items a p.form))
+
+pub one_list_of_elements : (primary bytes : List ℕ) (a b : List Element) → Accepts primary bytes a → Accepts primary bytes b → a ≡ b
+one_list_of_elements primary bytes a b p q =
+    let both = cuts-fronts bytes p.items q.items p.rest q.rest p.cut q.cut in
+    elim both.1 [ inl longer ↦ one_meaning primary bytes a b p q both.0 longer | inr shorter ↦ sym (one_meaning primary bytes b a q p both.0 shorter) ]
+
 -- ---- A stream is refused in one way
 
 module _ (primary : List ℕ) (items : List Item) (rest : List ℕ) where
   leaves_at : (at : ℕ) → LeavesForm primary items rest at → at ≡ end_of items
-  leaves_at at leaves = leaves.offset ∙ leaves.here
+  leaves_at at leaves = leaves.offset ∙ leaves.next.here
 
   next_is_one : (kind kind' : LayoutKind) (at at' : ℕ) → IsNext kind primary items rest at → IsNext kind' primary items rest at' → (at ≡ at') × (kind ≡ kind')
   next_is_one kinds.LayoutTooLong kinds.LayoutTooLong at at' p q = (p.0 ∙ sym q.0, refl)
   next_is_one kinds.LayoutTooLong kinds.Truncated at at' p q = absurd (partial_not_too_long (end_of items) rest q.1 p.1)
   next_is_one kinds.LayoutTooLong kinds.BadLength at at' p q = absurd (too_long_not_bad_length (end_of items) rest p.1 q.1)
-  next_is_one kinds.LayoutTooLong kinds.NotBuilt at at' p q = absurd (whole_not_too_long (end_of items) rest q.item q.more q.whole q.good p.1)
+  next_is_one kinds.LayoutTooLong kinds.NotBuilt at at' p q = absurd (whole_not_too_long (end_of items) rest q.item q.more q.next.whole q.next.good p.1)
   next_is_one kinds.Truncated kinds.LayoutTooLong at at' p q = absurd (partial_not_too_long (end_of items) rest p.1 q.1)
   next_is_one kinds.Truncated kinds.Truncated at at' p q = (p.0 ∙ sym q.0, refl)
   next_is_one kinds.Truncated kinds.BadLength at at' p q = absurd (partial_not_bad_length (end_of items) rest p.1 q.1)
-  next_is_one kinds.Truncated kinds.NotBuilt at at' p q = absurd (whole_not_partial (end_of items) rest q.item q.more q.whole p.1)
+  next_is_one kinds.Truncated kinds.NotBuilt at at' p q = absurd (whole_not_partial (end_of items) rest q.item q.more q.next.whole p.1)
   next_is_one kinds.BadLength kinds.LayoutTooLong at at' p q = absurd (too_long_not_bad_length (end_of items) rest q.1 p.1)
   next_is_one kinds.BadLength kinds.Truncated at at' p q = absurd (partial_not_bad_length (end_of items) rest q.1 p.1)
   next_is_one kinds.BadLength kinds.BadLength at at' p q = (p.0 ∙ sym q.0, refl)
-  next_is_one kinds.BadLength kinds.NotBuilt at at' p q = absurd (whole_not_bad_length (end_of items) rest q.item q.more q.whole q.good p.1)
-  next_is_one kinds.NotBuilt kinds.LayoutTooLong at at' p q = absurd (whole_not_too_long (end_of items) rest p.item p.more p.whole p.good q.1)
-  next_is_one kinds.NotBuilt kinds.Truncated at at' p q = absurd (whole_not_partial (end_of items) rest p.item p.more p.whole q.1)
-  next_is_one kinds.NotBuilt kinds.BadLength at at' p q = absurd (whole_not_bad_length (end_of items) rest p.item p.more p.whole p.good q.1)
+  next_is_one kinds.BadLength kinds.NotBuilt at at' p q = absurd (whole_not_bad_length (end_of items) rest q.item q.more q.next.whole q.next.good p.1)
+  next_is_one kinds.NotBuilt kinds.LayoutTooLong at at' p q = absurd (whole_not_too_long (end_of items) rest p.item p.more p.next.whole p.next.good q.1)
+  next_is_one kinds.NotBuilt kinds.Truncated at at' p q = absurd (whole_not_partial (end_of items) rest p.item p.more p.next.whole q.1)
+  next_is_one kinds.NotBuilt kinds.BadLength at at' p q = absurd (whole_not_bad_length (end_of items) rest p.item p.more p.next.whole p.next.good q.1)
   next_is_one kinds.NotBuilt kinds.NotBuilt at at' p q = (leaves_at at p ∙ sym (leaves_at at' q), refl)
 
 same_refusal : (a b : LayoutRefusal) → (a.at ≡ b.at) × (a.kind ≡ b.kind) → a ≡ b
-same_refusal a b same =
-    ap (λ (n : ℕ). let r : LayoutRefusal = record { at = n; kind = a.kind } in r) same.0 ∙ ap (λ (k : LayoutKind). let r : LayoutRefusal = record { at = b.at; kind = k } in r) same.1
+same_refusal a b same = λ i. let r : LayoutRefusal = record { at = same.0 i; kind = same.1 i } in r
 
 module _ (primary : List ℕ) (bytes : List ℕ) where
   no_further : (a b : LayoutRefusal) (p : Refuses primary bytes a) (q : Refuses primary bytes b) (more : List Item) → q.items ≡ p.items ++ more → a ≡ b

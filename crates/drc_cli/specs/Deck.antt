@@ -1,10 +1,11 @@
 -- A deck of the first form: what it says, and its one spelling. It names a layout, the cell at its top, a results
 -- file and one or two layers, and has one check, which wants the sides of one layer that are shorter than a bound.
-use Rattle.std.specs.Prelude.{◌≡◌, ◌≢◌, ℕ, ◌+◌, ◌-◌, ◌*◌, ◌<◌, ◌≤◌, ◌&&◌, ◌||◌, ◌==◌, nat_le, Bool, true, false, not, List, [], ◌∷◌, ◌++◌, length, slice_index, map, Option, Some, None, IsSome, IfSome, unwrap_or, codes, if◌then◌else◌}
+use Rattle.std.specs.Prelude.{◌≡◌, ◌≢◌, ℕ, ◌+◌, ◌-◌, ◌*◌, ◌<◌, ◌≤◌, ◌&&◌, ◌||◌, ◌==◌, Bool, true, false, not, List, [], ◌∷◌, ◌++◌, length, slice_index, map, Option, Some, None, IsSome, IfSome, unwrap_or, codes, if◌then◌else◌}
 use Rattle.std.specs.Char.{is_ascii_alphabetic, is_ascii_alphanumeric, is_ascii_digit, to_ascii_lowercase}
 use Rattle.std.specs.Fmt.{decimal}
 use Rattle.std.specs.List.{AllPass, list_any}
 use Rattle.std.specs.Str.{bytes_eq}
+use Rattle.drc_cli.specs.Printable.{is_printable}
 
 -- a layer's name, and its number in the layout
 pub record LayerLine : Type 0 where
@@ -39,9 +40,21 @@ thousandths (a ∷ []) = 100 * (a - 48)
 thousandths (a ∷ b ∷ []) = 100 * (a - 48) + 10 * (b - 48)
 thousandths (a ∷ b ∷ c ∷ more) = 100 * (a - 48) + 10 * (b - 48) + (c - 48)
 
--- a number in database units, of which a user unit has a thousand
+-- the most bytes of a deck
+abbrev pub longest_deck : ℕ
+longest_deck = 4194304
+
+-- database units in a user unit
+abbrev pub precision : ℕ
+precision = 1000
+
+-- of how many results a check writes at most
+abbrev pub limit : ℕ
+limit = 1000
+
+-- a number in database units
 abbrev pub units_of : Decimal → ℕ
-units_of v = 1000 * v.whole + thousandths v.fraction
+units_of v = precision * v.whole + thousandths v.fraction
 
 -- ---- the words between the fields
 
@@ -96,8 +109,8 @@ fraction [] = []
 fraction (a ∷ more) = point ++ (a ∷ more)
 
 -- the lines above those of the layers
-abbrev pub heading_lines : List ℕ → List ℕ → List ℕ → List ℕ
-heading_lines layout primary results = before_layout ++ (layout ++ (before_primary ++ (primary ++ (before_results ++ (results ++ before_layers)))))
+abbrev pub preamble_lines : List ℕ → List ℕ → List ℕ → List ℕ
+preamble_lines layout primary results = before_layout ++ (layout ++ (before_primary ++ (primary ++ (before_results ++ (results ++ before_layers)))))
 
 -- the line of the check's operation, and the check's end
 abbrev pub operation_lines : List ℕ → Decimal → List ℕ
@@ -109,7 +122,7 @@ check_lines check note input bound = check ++ (before_note ++ (note ++ operation
 
 -- the text of a deck, with each line ended by LF
 abbrev pub spelling : Deck → List ℕ
-spelling d = heading_lines d.layout d.primary d.results ++ (layer_line d.first ++ (second_line d.second ++ check_lines d.check d.note (input_of d).name d.bound))
+spelling d = preamble_lines d.layout d.primary d.results ++ (layer_line d.first ++ (second_line d.second ++ check_lines d.check d.note (input_of d).name d.bound))
 
 -- ---- what has a spelling
 
@@ -142,10 +155,6 @@ is_keyword word = list_any (is_same_word word) keywords
 -- a letter, digit or underscore
 abbrev pub is_name_byte : ℕ → Bool
 is_name_byte c = is_ascii_alphanumeric c || c == 95
-
--- from the space to the tilde
-abbrev pub is_printable : ℕ → Bool
-is_printable c = nat_le 32 c && nat_le c 126
 
 -- printable, and no quote
 abbrev pub is_file_byte : ℕ → Bool
@@ -196,6 +205,6 @@ pub record IsFirstForm (deck_name : List ℕ) (d : Deck) : Type 0 where
 
 -- the text spells this deck
 pub record Spells (deck_name text : List ℕ) (d : Deck) : Type 0 where
-  pub size : length text ≤ 4194304
+  pub size : length text ≤ longest_deck
   pub form : IsFirstForm deck_name d
   pub spelled : text ≡ spelling d

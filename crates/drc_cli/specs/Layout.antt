@@ -3,35 +3,27 @@
 --     layout    = HEADER BGNLIB LIBNAME UNITS BGNSTR STRNAME { element } ENDSTR ENDLIB
 --     element   = BOUNDARY LAYER DATATYPE XY ENDEL
 --
--- What each record is stands first, then the grammar by cases on the list of records, then the same grammar by places:
--- what may stand at a place, and what place follows. The check's layer is one layer number; the layout has the
--- rectangles of that layer, which may touch, overlap and repeat.
-use Rattle.std.specs.Prelude.{◌≡◌, ◌≢◌, ◌⊎◌, ℕ, ◌+◌, ◌-◌, ◌*◌, ◌^◌, ◌==◌, if◌then◌else◌, List, [], ◌∷◌, ◌++◌, length, take, drop, map, filter, slice_get, All, Some, ℤ, pos, negsuc, ◌≤ℤ◌}
+-- What each record is stands first, then the grammar by cases on the list of records, then what is drawn on a layer, and
+-- last the same grammar by slots, for layouts that are refused: what may stand in a slot, and what slot follows.
+use Rattle.std.specs.Prelude.{◌≡◌, ◌≢◌, ◌⊎◌, ℕ, ◌+◌, ◌-◌, ◌*◌, ◌^◌, ◌==◌, ◌&&◌, ◌||◌, not, false, if◌then◌else◌, List, [], ◌∷◌, ◌++◌, length, take, drop, slice_get, All, Some, ℤ, pos, negsuc, ◌≤ℤ◌}
 use Rattle.std.specs.Int.{cast_signed, w32}
+use Rattle.std.specs.Ordering.{int_eq}
 use Rattle.byteorder.specs.Endian.{big_number}
 use Rattle.drc_geom.specs.declared.point.Pt.{Pt}
 use Rattle.drc_geom.specs.declared.rect.Rect.{Rect}
-use Rattle.drc_geom.specs.Winding.{outline}
-use Rattle.drc_geom.specs.Squares.{IsRect}
-use Rattle.gds_records.specs.declared.record_type.RecordType.{RecordType}
+use Rattle.drc_geom.specs.Winding.{outline, winding}
+use Rattle.drc_geom.specs.Squares.{Squares, IsRect}
 use Rattle.gds_records.specs.declared.record_type.RecordType.TheVariants as types
-use Rattle.gds_records.specs.declared.data_form.DataForm.{DataForm}
 use Rattle.gds_records.specs.declared.data_form.DataForm.TheVariants as forms
 use Rattle.gds_records.specs.declared.fault.LayoutKind.{LayoutKind}
 use Rattle.gds_records.specs.declared.fault.LayoutKind.TheVariants as kinds
 use Rattle.gds_records.specs.declared.fault.LayoutRefusal.{LayoutRefusal}
-use Rattle.gds_records.specs.Records.{Item, size_of, spelling, Cuts, end_of, EndsLibrary, IsGoodLength, IsPartial, IsTooLong, IsBadLength}
+use Rattle.gds_records.specs.Records.{Item, IsOf, Cuts, end_of, EndsLibrary, ComesNext, IsPartial, IsTooLong, IsBadLength}
 use Rattle.gds_records.specs.RecordTypes.{code_of}
-use Rattle.gds_records.specs.DataForms.{form_code_of}
-use Rattle.drc_cli.specs.declared.layout.place.Place.{Place}
-use Rattle.drc_cli.specs.declared.layout.place.Place.TheVariants.{Header, LibraryStart, LibraryName, Units, StructureStart, StructureName, Elements, Layer, DataType, Points, ElementEnd, LibraryEnd, End}
+use Rattle.drc_cli.specs.declared.layout.slot.Slot.{Slot}
+use Rattle.drc_cli.specs.declared.layout.slot.Slot.TheVariants.{Header, LibraryStart, LibraryName, Units, StructureStart, StructureName, Elements, Layer, DataType, Points, ElementEnd, LibraryEnd, End}
 
 -- ---- What each record is
-
--- a record of this type, with data of this form
-pub record IsOf (type : RecordType) (form : DataForm) (item : Item) : Type 0 where
-  pub type_byte : item.kind ≡ code_of type
-  pub form_byte : item.form ≡ form_code_of form
 
 abbrev pub IsHeader : Item → Type 0
 IsHeader item = IsOf types.Header forms.TwoByte item × (length item.body ≡ 2)
@@ -77,24 +69,21 @@ number_in body = big_number 2 body
 abbrev pub IsDataType : Item → Type 0
 IsDataType item = IsOf types.DataType forms.TwoByte item × (length item.body ≡ 2)
 
--- the coordinate at a place in the data of XY: four bytes, two's complement, high byte first
-unfoldable pub coordinate : (place : ℕ) → List ℕ → ℤ
-coordinate place body = cast_signed w32 (big_number 4 (drop (4 * place) body))
+-- a coordinate in the data of XY, by its index: four bytes, two's complement, high byte first
+unfoldable pub coordinate : (index : ℕ) → List ℕ → ℤ
+coordinate index body = cast_signed w32 (big_number 4 (drop (4 * index) body))
 
--- the coordinates of five points
-abbrev pub coordinates : List ℕ → List ℤ
-coordinates body =
-    coordinate 0 body ∷ coordinate 1 body ∷ coordinate 2 body ∷ coordinate 3 body ∷ coordinate 4 body
-    ∷ coordinate 5 body ∷ coordinate 6 body ∷ coordinate 7 body ∷ coordinate 8 body ∷ coordinate 9 body ∷ []
+-- a point there, by its index
+abbrev pub point_in : (index : ℕ) → List ℕ → Pt
+point_in index body = record { x = coordinate (2 * index) body; y = coordinate (2 * index + 1) body }
+
+-- the first five points
+abbrev pub points_in : List ℕ → List Pt
+points_in body = point_in 0 body ∷ point_in 1 body ∷ point_in 2 body ∷ point_in 3 body ∷ point_in 4 body ∷ []
 
 -- the rectangle between the first and the third point
 abbrev pub rect_in : List ℕ → Rect
 rect_in body = record { x0 = coordinate 0 body; y0 = coordinate 1 body; x1 = coordinate 4 body; y1 = coordinate 5 body }
-
--- the coordinates of points, one after the other
-abbrev pub coordinates_of : List Pt → List ℤ
-coordinates_of [] = []
-coordinates_of (p ∷ points) = p.x ∷ p.y ∷ coordinates_of points
 
 -- a rectangle within -2^30 to 2^30
 pub record IsInRange (r : Rect) : Type 0 where
@@ -106,7 +95,7 @@ pub record IsInRange (r : Rect) : Type 0 where
 -- five points that are the outline of a rectangle with an area, in range
 pub record IsOutline (body : List ℕ) : Type 0 where
   pub size : length body ≡ 40
-  pub points : coordinates body ≡ coordinates_of (outline (rect_in body))
+  pub points : points_in body ≡ outline (rect_in body)
   pub area : IsRect (rect_in body)
   pub range : IsInRange (rect_in body)
 
@@ -124,24 +113,20 @@ IsLibraryEnd item = IsOf types.EndLibrary forms.NoData item × (length item.body
 
 -- ---- The grammar
 
--- an element: its layer number and its rectangle
+-- an element: its layer number and its points
 pub record Element : Type 0 where
   pub number : ℕ
-  pub rect : Rect
+  pub points : List Pt
 
--- five records are an element
-pub record IsElement (boundary layer kind points end : Item) (element : Element) : Type 0 where
-  pub opens : IsBoundary boundary
-  pub on : IsLayer layer
-  pub typed : IsDataType kind
-  pub drawn : IsPoints points
-  pub closes : IsElementEnd end
-  pub known : element ≡ record { number = number_in layer.body; rect = rect_in points.body }
+-- the element of a LAYER and an XY
+abbrev pub element_of : (layer points : Item) → Element
+element_of layer points = record { number = number_in layer.body; points = points_in points.body }
 
 -- elements one after the other, then ENDSTR and ENDLIB
 abbrev pub AreElements : List Item → List Element → Type 0
-AreElements (boundary ∷ layer ∷ kind ∷ points ∷ end ∷ items) (element ∷ elements) =
-    IsElement boundary layer kind points end element × AreElements items elements
+AreElements (boundary ∷ layer ∷ type ∷ points ∷ end ∷ items) (element ∷ elements) =
+    IsBoundary boundary × IsLayer layer × IsDataType type × IsPoints points × IsElementEnd end
+    × (element ≡ element_of layer points) × AreElements items elements
 AreElements (structure ∷ library ∷ []) [] = IsStructureEnd structure × IsLibraryEnd library
 AreElements items elements = ⊥
 
@@ -152,23 +137,25 @@ FirstForm primary (header ∷ library ∷ library_name ∷ units ∷ structure �
     × IsStructureStart structure × IsStructureName primary name × AreElements items elements
 FirstForm primary items elements = ⊥
 
--- the rectangles of one layer, in the order of the stream
-abbrev pub rects_on : (number : ℕ) → List Element → List Rect
-rects_on number elements = map (λ element. element.rect) (filter (λ element. element.number == number) elements)
-
--- A layout of these bytes is accepted with these rectangles. What stands behind ENDLIB isn't looked at.
-pub record Accepts (primary : List ℕ) (number : ℕ) (bytes : List ℕ) (rects : List Rect) : Type 0 where
+-- A layout of these bytes is accepted with these elements. What stands behind ENDLIB isn't looked at.
+pub record Accepts (primary : List ℕ) (bytes : List ℕ) (elements : List Element) : Type 0 where
   pub items : List Item
-  pub elements : List Element
   pub rest : List ℕ
   pub cut : Cuts bytes items rest
   pub form : FirstForm primary items elements
-  pub drawn : rects ≡ rects_on number elements
 
--- ---- The grammar by places
+-- ---- What is drawn
 
--- what may stand at a place
-abbrev pub Stands : (primary : List ℕ) → Place → Item → Type 0
+-- the squares of a layer: those round which the points of some element on it wind
+abbrev pub drawn : (number : ℕ) → List Element → Squares
+drawn number [] x y = false
+drawn number (element ∷ elements) x y =
+    (element.number == number && not (int_eq (winding element.points x y) (pos 0))) || drawn number elements x y
+
+-- ---- The grammar by slots
+
+-- what may stand in a slot
+abbrev pub Stands : (primary : List ℕ) → Slot → Item → Type 0
 Stands primary Header item = IsHeader item
 Stands primary LibraryStart item = IsLibraryStart item
 Stands primary LibraryName item = IsLibraryName item
@@ -183,8 +170,8 @@ Stands primary ElementEnd item = IsElementEnd item
 Stands primary LibraryEnd item = IsLibraryEnd item
 Stands primary End item = ⊥
 
--- the place behind a record that stands at a place
-abbrev pub following : Place → Item → Place
+-- the slot behind a record that stands in a slot
+abbrev pub following : Slot → Item → Slot
 following Header item = LibraryStart
 following LibraryStart item = LibraryName
 following LibraryName item = Units
@@ -199,29 +186,10 @@ following ElementEnd item = Elements
 following LibraryEnd item = End
 following End item = End
 
--- the element that is known at a record: one counts from its XY on
-abbrev pub drawn_at : Place → Item → List Element
-drawn_at (Points number) item = record { number = number; rect = rect_in item.body } ∷ []
-drawn_at place item = []
-
--- each record may stand at its place
-abbrev pub AllStand : (primary : List ℕ) → Place → List Item → Type 0
-AllStand primary place [] = Unit {0}
-AllStand primary place (item ∷ items) = Stands primary place item × AllStand primary (following place item) items
-
--- the place behind the records
-abbrev pub place_after : Place → List Item → Place
-place_after place [] = place
-place_after place (item ∷ items) = place_after (following place item) items
-
--- the elements of the records
-abbrev pub drawn_from : Place → List Item → List Element
-drawn_from place [] = []
-drawn_from place (item ∷ items) = drawn_at place item ++ drawn_from (following place item) items
-
--- the elements of records from the start on
-abbrev pub elements_of : List Item → List Element
-elements_of items = drawn_from Header items
+-- each record may stand in its slot
+abbrev pub AllStand : (primary : List ℕ) → Slot → List Item → Type 0
+AllStand primary slot [] = Unit {0}
+AllStand primary slot (item ∷ items) = Stands primary slot item × AllStand primary (following slot item) items
 
 -- the records are, as far as they go, those of a layout of the first form
 abbrev pub IsFront : (primary : List ℕ) → List Item → Type 0
@@ -233,9 +201,7 @@ IsFront primary items = AllStand primary Header items
 pub record LeavesForm (primary : List ℕ) (items : List Item) (rest : List ℕ) (at : ℕ) : Type 0 where
   pub item : Item
   pub more : List ℕ
-  pub whole : rest ≡ spelling item ++ more
-  pub here : item.at ≡ end_of items
-  pub good : IsGoodLength (end_of items) (size_of item)
+  pub next : ComesNext items rest item more
   pub leaves : IsFront primary (items ++ item ∷ []) → ⊥
   pub offset : at ≡ item.at
 

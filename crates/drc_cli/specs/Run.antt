@@ -1,89 +1,127 @@
--- What each answer of a check says: of the counts, which are always known, and of the files and the lines that were
--- said, where they are told.
-use Rattle.std.specs.Prelude.{◌≡◌, ◌⊎◌, ℕ, ◌<◌, List, ◌++◌, length}
-use Rattle.drc_ports.specs.Counts.{Rose, RoseBy}
-use Rattle.drc_ports.specs.Files.{Tally, Contents, HasNow}
+-- How a run ends: with the outcome that its words mean, or at a step of it that fails, or for want of memory. It is said of
+-- the object that reads, writes and says, as it was before and as it is afterwards: of its tally always, and of its
+-- contents where it tells.
+use Rattle.std.specs.Prelude.{◌≡◌, ◌⊎◌, ℕ, ◌≤◌, ◌+◌, List, [], ◌∷◌, ◌++◌, Bool, IsTrue, Some}
+use Rattle.drc_ports.specs.Counts.{Rose}
+use Rattle.drc_ports.specs.Files.{Tally, Contents, World, HasNow}
 use Rattle.drc_cli.specs.declared.answer.Status.{Status}
 use Rattle.drc_cli.specs.declared.answer.Status.TheVariants as status
 use Rattle.drc_cli.specs.declared.answer.Which.TheVariants as which
-use Rattle.drc_cli.specs.Command.{Check}
-use Rattle.drc_cli.specs.Lines.{line_of, IsSaid, IsCutShort}
-use Rattle.drc_cli.specs.Deck.{Deck}
-use Rattle.drc_cli.specs.Check.{Held, HasDeck, RefusesDeck, RefusesLayout, Means}
+use Rattle.drc_cli.specs.CheckMeaning.{Reports}
+use Rattle.drc_cli.specs.Command.{Command, CheckRequest, Asks}
+use Rattle.drc_cli.specs.Deck.{Deck, Spells}
+use Rattle.drc_cli.specs.Lines.{read_line, write_line, memory_line}
+use Rattle.drc_cli.specs.Meaning.{Means}
+use Rattle.drc_cli.specs.Outcome.{Outcome, Step, reads, writes, says}
+use Rattle.drc_cli.specs.Steps.{IsDone, AreDone, Fails, IsTried}
 
--- no count of failures rose
-pub record NoneFailed (old new : Tally) : Type 0 where
-  pub reads : new.read_faults ≡ old.read_faults
-  pub writes : new.write_faults ≡ old.write_faults
-  pub says : new.say_faults ≡ old.say_faults
+-- ---- With all steps done
 
--- The deck is opened first, the layout second, the results file third.
-abbrev pub IsCounted : Check → Status → Tally → Tally → Type 0
-IsCounted check status.Done old new = NoneFailed old new × RoseBy 3 old.begun new.begun
-IsCounted check (status.Deck refusal) old new =
-    (new.read_faults ≡ old.read_faults) × (new.write_faults ≡ old.write_faults) × RoseBy 1 old.begun new.begun
-    × (new.opened ≡ check.deck)
-IsCounted check (status.Layout refusal) old new =
-    (new.read_faults ≡ old.read_faults) × (new.write_faults ≡ old.write_faults) × RoseBy 2 old.begun new.begun
-IsCounted check (status.ReadFault which.Deck) old new =
-    Rose old.read_faults new.read_faults × RoseBy 1 old.begun new.begun × (new.opened ≡ check.deck)
-IsCounted check (status.ReadFault which.Layout) old new =
-    Rose old.read_faults new.read_faults × RoseBy 2 old.begun new.begun
-IsCounted check (status.ReadFault file) old new = ⊥
-IsCounted check (status.WriteFault which.Results) old new =
-    Rose old.write_faults new.write_faults × RoseBy 3 old.begun new.begun
-IsCounted check (status.WriteFault which.Output) old new =
-    Rose old.say_faults new.say_faults × RoseBy 3 old.begun new.begun
-IsCounted check (status.WriteFault file) old new = ⊥
-IsCounted check status.Words old new = Unit {0}
-IsCounted check status.NoMemory old new = new.write_faults ≡ old.write_faults
+pub record IsWhole (outcome : Outcome) (answer : Status) (tells : Bool) (old new : World) : Type 0 where
+  pub status_is : answer ≡ outcome.status
+  pub done : AreDone tells outcome.steps old new
 
--- every file that was created stands as before
-abbrev pub SameFiles : (old new : Held) → Type 0
-SameFiles old new = (name : List ℕ) → new name ≡ old name
+-- ---- At a file
 
--- the file of this name is as before, or has a front of the text that isn't the whole; every other stands as before
-abbrev pub IsPartlyWritten : (name text : List ℕ) → (old new : Held) → Type 0
-IsPartlyWritten name text old new =
-    SameFiles old new ⊎ ((front rest : List ℕ) × (text ≡ front ++ rest) × (0 < length rest) × HasNow name front old new)
+-- the status and the line of a file that can't be read or written
+abbrev pub IsFaultOf : Step → Status → (line : List ℕ) → Type 0
+IsFaultOf (reads file name bytes) answer line = (answer ≡ status.ReadFault file) × (line ≡ read_line name)
+IsFaultOf (writes file name text) answer line = (answer ≡ status.WriteFault file) × (line ≡ write_line name)
+IsFaultOf (says text) answer line = ⊥
 
--- nothing was created, and the status's line was said
-pub record IsRefused (status : Status) (counts_before counts : Tally) (old new : Contents) : Type 0 where
-  pub files : SameFiles old.made new.made
-  pub said : IsSaid (line_of status counts.opened) old.said new.said counts_before.say_faults counts.say_faults
+-- a file can't be read or written: the steps before it are done, and none behind it; and that is said, or the saying fails
+pub record IsCut (outcome : Outcome) (answer : Status) (tells : Bool) (old new : World) : Type 0 where
+  pub before : List Step
+  pub step : Step
+  pub behind : List Step
+  pub line : List ℕ
+  pub at : World
+  pub failed : World
+  pub steps : outcome.steps ≡ before ++ step ∷ behind
+  pub done : AreDone tells before old at
+  pub fails : Fails tells step at failed
+  pub fault : IsFaultOf step answer line
+  pub said : IsTried tells (says line) failed new
 
--- what an answer means, before and after which the tallies and the contents are these
-abbrev pub IsTold : Check → Status → Tally → Tally → Contents → Contents → Type 0
-IsTold check status.Done before after old new =
-    (name text line : List ℕ) × Means old.held check name text line
-    × HasNow name text old.made new.made × (new.said ≡ old.said ++ line)
-IsTold check status.Words before after old new = ⊥
-IsTold check (status.Deck refusal) before after old new =
-    RefusesDeck old.held check refusal × IsRefused (status.Deck refusal) before after old new
-IsTold check (status.Layout refusal) before after old new =
-    RefusesLayout old.held check refusal × IsRefused (status.Layout refusal) before after old new
-IsTold check (status.ReadFault which.Layout) before after old new =
-    (d : Deck) × HasDeck old.held check d × (after.opened ≡ d.layout)
-    × IsRefused (status.ReadFault which.Layout) before after old new
-IsTold check (status.ReadFault file) before after old new = IsRefused (status.ReadFault file) before after old new
-IsTold check (status.WriteFault which.Output) before after old new =
-    (name text line : List ℕ) × Means old.held check name text line
-    × HasNow name text old.made new.made × IsCutShort line old.said new.said
-IsTold check (status.WriteFault file) before after old new =
-    (name text line : List ℕ) × Means old.held check name text line × (after.opened ≡ name)
-    × IsPartlyWritten name text old.made new.made
-    × IsSaid (line_of (status.WriteFault file) after.opened) old.said new.said before.say_faults after.say_faults
-IsTold check status.NoMemory before after old new = IsRefused status.NoMemory before after old new
+-- ---- At what is said
 
--- The results file holds exactly the text that the check means, every other file that was created stands as before,
--- and the line was said.
-abbrev pub HasResults : Check → Contents → Contents → Type 0
-HasResults check old new =
-    (name text line : List ℕ) × Means old.held check name text line
-    × HasNow name text old.made new.made × (new.said ≡ old.said ++ line)
+-- a command that is done but for its text is a fault; what is refused stays so, whatever is said of it
+abbrev pub unsaid : Status → Status
+unsaid status.Done = status.WriteFault which.Output
+unsaid other = other
+
+-- the text can't be said whole: the steps before it are done
+pub record IsUnsaid (outcome : Outcome) (answer : Status) (tells : Bool) (old new : World) : Type 0 where
+  pub before : List Step
+  pub text : List ℕ
+  pub at : World
+  pub steps : outcome.steps ≡ before ++ says text ∷ []
+  pub done : AreDone tells before old at
+  pub fails : Fails tells (says text) at new
+  pub status_is : answer ≡ unsaid outcome.status
+
+-- ---- For want of memory
+
+-- files were read alone, at most so many
+pub record OnlyReads (most : ℕ) (tells : Bool) (old new : World) : Type 0 where
+  pub read_faults : new.tally.read_faults ≡ old.tally.read_faults
+  pub write_faults : new.tally.write_faults ≡ old.tally.write_faults
+  pub say_faults : new.tally.say_faults ≡ old.tally.say_faults
+  pub writing : new.tally.writing ≡ old.tally.writing
+  pub begun : new.tally.begun ≤ old.tally.begun + most
+  pub contents : IsTrue tells → new.contents ≡ record old.contents { left = new.contents.left }
+
+-- nothing was made when memory ran out; and that is said, or the saying fails
+pub record IsOutOfMemory (answer : Status) (tells : Bool) (old new : World) : Type 0 where
+  pub status_is : answer ≡ status.NoMemory
+  pub at : World
+  pub read : OnlyReads 2 tells old at
+  pub said : IsTried tells (says memory_line) at new
+
+-- ---- Each run
+
+-- an outcome ends so
+abbrev pub EndsAs : Outcome → Status → (tells : Bool) → World → World → Type 0
+EndsAs outcome answer tells old new =
+    IsWhole outcome answer tells old new ⊎ (IsCut outcome answer tells old new ⊎ IsUnsaid outcome answer tells old new)
+
+-- a run of the program with these words ends so
+abbrev pub Ends : (words : List (List ℕ)) → Status → (tells : Bool) → World → World → Type 0
+Ends words answer tells old new =
+    ((outcome : Outcome) × Means words outcome × EndsAs outcome answer tells old new)
+    ⊎ ((command : Command) × Asks words command × IsOutOfMemory answer tells old new)
+
+-- ---- What follows
 
 -- no call failed
-pub record NoneRose (old new : Tally) : Type 0 where
+pub record NoneFailed (old new : Tally) : Type 0 where
   pub reads : Rose old.read_faults new.read_faults → ⊥
   pub writes : Rose old.write_faults new.write_faults → ⊥
   pub says : Rose old.say_faults new.say_faults → ⊥
+
+-- A check has its results: the results file holds exactly the bytes that deck and layout mean, each other file that was
+-- made is as before, and the line was said.
+pub record HasResults (request : CheckRequest) (old new : Contents) : Type 0 where
+  pub deck : List ℕ
+  pub d : Deck
+  pub bytes : List ℕ
+  pub text : List ℕ
+  pub line : List ℕ
+  pub deck_held : old.held request.deck ≡ Some deck
+  pub spelled : Spells request.deck deck d
+  pub layout_held : old.held d.layout ≡ Some bytes
+  pub reports : Reports d bytes request.date text line
+  pub made : HasNow d.results text old.made new.made
+  pub said : new.said ≡ old.said ++ line
+
+-- an answer before any file is made
+abbrev pub IsRefusal : Status → Type 0
+IsRefusal status.Done = ⊥
+IsRefusal (status.WriteFault file) = ⊥
+IsRefusal other = Unit {0}
+
+-- no file was made, or begun to be made
+pub record MakesNothing (tells : Bool) (old new : World) : Type 0 where
+  pub writing : new.tally.writing ≡ old.tally.writing
+  pub write_faults : new.tally.write_faults ≡ old.tally.write_faults
+  pub made : IsTrue tells → new.contents.made ≡ old.contents.made

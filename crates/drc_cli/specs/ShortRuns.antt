@@ -1,14 +1,16 @@
--- The runs of the boundary of an area that are shorter than a bound, in database units.
-use Rattle.std.specs.Prelude.{ℕ, ◌<ℤ◌, pos, int_lt, List, filter}
+-- The short runs of the boundary of an area: the maximal runs of what LENGTH keeps of its units, where a length meets the
+-- limits that is shorter than a bound, in database units.
+use Rattle.std.specs.Prelude.{ℕ, ℤ, Bool, pos, int_lt}
 use Rattle.drc_geom.specs.declared.run.Run.{Run}
 use Rattle.drc_geom.specs.Squares.{Squares}
-use Rattle.drc_geom.specs.Units.{boundary}
-use Rattle.drc_geom.specs.Runs.{length_of, IsMaximalRun}
+use Rattle.drc_geom.specs.Units.{Units, boundary}
+use Rattle.drc_geom.specs.Runs.{IsMaximalRun}
+use Rattle.drc_geom.specs.Lengths.{IsLength}
 
--- a maximal run of the boundary of these squares, and shorter than the bound
-abbrev pub IsShortRun : Squares → (bound : ℕ) → Run → Type 0
-IsShortRun squares bound run = IsMaximalRun (boundary squares) run × (length_of run <ℤ pos bound)
+abbrev pub is_shorter : (bound : ℕ) → (length : ℤ) → Bool
+is_shorter bound length = int_lt length (pos bound)
 
--- the runs of a list that are shorter than the bound
-abbrev pub short_of : (bound : ℕ) → List Run → List Run
-short_of bound runs = filter (λ run. int_lt (length_of run) (pos bound)) runs
+pub record IsShortRun (squares : Squares) (bound : ℕ) (run : Run) : Type 0 where
+  pub kept : Units
+  pub units : IsLength (boundary squares) (is_shorter bound) kept
+  pub maximal : IsMaximalRun kept run

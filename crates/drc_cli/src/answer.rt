@@ -2,21 +2,8 @@
 ghost use Rattle.std.specs.Prelude.{◌≡◌};
 ghost use Rattle.drc_cli.specs.Statuses.{exit_status_of};
 
+use crate::deck_kind::DeckRefusal;
 use gds_records::LayoutRefusal;
-
-/// What is wrong with a deck.
-#[derive(Clone, Copy, Debug, PartialEq, Eq)]
-pub enum DeckKind {
-    /// A deck that the checker doesn't serve yet: one that isn't of the first form.
-    NotBuilt,
-}
-
-/// The first fact for which a deck is refused, and the offset at which it stands.
-#[derive(Clone, Copy, Debug, PartialEq, Eq)]
-pub struct DeckRefusal {
-    pub at: u64,
-    pub kind: DeckKind,
-}
 
 /// Which of its files a run was at when a call failed.
 #[derive(Clone, Copy, Debug, PartialEq, Eq)]

@@ -3,20 +3,26 @@
 ghost use Rattle.std.specs.Prelude.{◌≡◌, ◌-◌, ◌<◌, Option, IfSome, IfNone};
 ghost use Rattle.std.specs.Option.{option_map};
 ghost use Rattle.drc_cli.specs.Deck.{Deck, Spells, thousandths, units_of};
-ghost use Rattle.drc_cli.specs.DeckReading.{Gives, choice_of, files_differ, deck_at};
-ghost use Rattle.drc_cli.specs.DeckView.{head_of, decimal_of, choice_in, number_of};
-ghost use Rattle.drc_cli.specs.DeckAnswer.{IsReadingOf, Reads};
+ghost use Rattle.drc_cli.specs.Working.DeckReading.{Gives, choice_of, files_differ, deck_at};
+ghost use Rattle.drc_cli.specs.Working.DeckView.{head_of, decimal_of, choice_in, number_of};
+ghost use Rattle.drc_cli.specs.Working.DeckAnswer.{IsReadingOf, Reads};
 
-use crate::deck::line::{Heading, Lines, lines_of};
+use crate::deck::line::{DeckLines, Preamble, lines_of};
 use crate::deck::number::Bound;
 
+mod field;
 mod keyword;
 mod line;
 mod number;
-mod piece;
+
+/// Database units in a user unit.
+pub const PRECISION: u32 = 1000;
+
+/// Of how many results a check writes at most.
+pub const LIMIT: usize = 1000;
 
 /// The most bytes of a deck.
-const MOST_BYTES: usize = 4_194_304;
+pub const LONGEST_DECK: usize = 4_194_304;
 
 /// What a deck of the first form says.
 #[derive(Drop)]
@@ -37,16 +43,18 @@ pub struct FirstDeck<'a> {
     pub bound: u32,
 }
 
-#[tactic(auto, unfolding(crate::specs::DeckReading::files_differ))]
-fn files_differ(deck_name: &[u8], heading: &Heading<'_>) -> bool
-    ensures { result ≡ files_differ deck_name.now (head_of heading.now) }
+#[tactic(auto, unfolding(crate::specs::Working::DeckReading::files_differ))]
+fn files_differ(deck_name: &[u8], preamble: &Preamble<'_>) -> bool
+    ensures { result ≡ files_differ deck_name.now (head_of preamble.now) }
 {
-    heading.layout != heading.results && heading.layout != deck_name && heading.results != deck_name
+    preamble.layout != preamble.results
+        && preamble.layout != deck_name
+        && preamble.results != deck_name
 }
 
 /// The number of the layer that the check looks at, where its name is that of one of the layers, whose names differ.
-#[tactic(auto, unfolding(crate::specs::DeckReading::choice_of))]
-fn input_number(lines: &Lines<'_>) -> Option<u16>
+#[tactic(auto, unfolding(crate::specs::Working::DeckReading::choice_of))]
+fn input_number(lines: &DeckLines<'_>) -> Option<u16>
     ensures { Gives (λ n. n) result (option_map (λ o. number_of lines.now o) (choice_in lines.now)) }
 {
     let input = lines.rule.input;
@@ -85,22 +93,22 @@ fn units(bound: &Bound<'_>) -> u32
     requires { bound.now.whole < 1000000 }
     ensures { result ≡ units_of (decimal_of bound.now) }
 {
-    1000 * bound.whole + thousandths(bound.fraction)
+    PRECISION * bound.whole + thousandths(bound.fraction)
 }
 
-#[tactic(auto, unfolding(crate::specs::DeckReading::deck_at))]
+#[tactic(auto, unfolding(crate::specs::Working::DeckReading::deck_at))]
 fn read<'a>(text: &'a [u8], deck_name: &[u8]) -> Option<FirstDeck<'a>>
     ensures { Reads result (deck_at deck_name.now text.now) }
 {
     let lines = lines_of(text)?;
     let number = input_number(&lines)?;
-    if text.len() > MOST_BYTES || !files_differ(deck_name, &lines.heading) {
+    if text.len() > LONGEST_DECK || !files_differ(deck_name, &lines.preamble) {
         return None;
     }
     Some(FirstDeck {
-        layout: lines.heading.layout,
-        primary: lines.heading.primary,
-        results: lines.heading.results,
+        layout: lines.preamble.layout,
+        primary: lines.preamble.primary,
+        results: lines.preamble.results,
         check: lines.rule.name,
         note: lines.rule.note,
         number,

@@ -1,19 +1,40 @@
-//! Laws of the definitions, which the contracts of the top call rest on: each text and each stream has one meaning.
-ghost use Rattle.std.specs.Prelude.{◌≡◌, List, ℕ};
-ghost use Rattle.drc_geom.specs.declared.rect.Rect.{Rect};
+//! Laws of the definitions, which the contracts of the top call rest on: each text and each stream has one meaning, and
+//! so have the words over given files.
+ghost use Rattle.std.specs.Prelude.{◌≡◌, List, ℕ, Option, Some};
 ghost use Rattle.gds_records.specs.declared.fault.LayoutRefusal.{LayoutRefusal};
 ghost use Rattle.drc_cli.specs.Deck.{Deck, Spells};
-ghost use Rattle.drc_cli.specs.Layout.{Accepts, Refuses};
+ghost use Rattle.drc_cli.specs.Layout.{Element, Accepts, Refuses};
+ghost use Rattle.drc_cli.specs.Command.{CheckRequest, AsksForCheck, AreRefused};
+ghost use Rattle.drc_cli.specs.CheckMeaning.{IsAnswered};
+ghost use Rattle.drc_cli.specs.Outcome.{Outcome};
+ghost use Rattle.drc_cli.specs.Meaning.{Due, refused_words};
 
 /// A text is at most one deck of the first form.
 pub fn one_deck()
     ensures { (name text : List ℕ) (d e : Deck) → Spells name text d → Spells name text e → d ≡ e }
 {}
 
-/// A stream that is accepted isn't refused, and one that is refused is refused for one fact.
+/// A stream is accepted with one list of elements and then isn't refused, or it is refused for one fact.
 pub fn one_layout_answer()
-    ensures accepted { (primary : List ℕ) (number : ℕ) (bytes : List ℕ) (rects : List Rect) (refusal : LayoutRefusal)
-        → Accepts primary number bytes rects → Refuses primary bytes refusal → ⊥ }
+    ensures elements { (primary bytes : List ℕ) (one other : List Element)
+        → Accepts primary bytes one → Accepts primary bytes other → one ≡ other }
+    ensures accepted { (primary bytes : List ℕ) (elements : List Element) (refusal : LayoutRefusal)
+        → Accepts primary bytes elements → Refuses primary bytes refusal → ⊥ }
     ensures refused { (primary bytes : List ℕ) (one other : LayoutRefusal)
         → Refuses primary bytes one → Refuses primary bytes other → one ≡ other }
+{}
+
+/// Over given files words have at most one outcome.
+pub fn one_outcome()
+    ensures { (held : List ℕ → Option (List ℕ)) (words : List (List ℕ)) (one other : Outcome)
+        → Due held words one → Due held words other → one ≡ other }
+{}
+
+/// And at least one: words that ask for nothing; and a check whose deck is held and either spells nothing that is served
+/// or names a layout that is held, and is refused or has results.
+pub fn some_outcome()
+    ensures words { (held : List ℕ → Option (List ℕ)) (words : List (List ℕ)) → AreRefused words → Due held words refused_words }
+    ensures check { (held : List ℕ → Option (List ℕ)) (words : List (List ℕ)) (request : CheckRequest) (text : List ℕ)
+        → AsksForCheck words request → held request.deck ≡ Some text
+        → ((d : Deck) → Spells request.deck text d → IsAnswered held request.date d) → (outcome : Outcome) × Due held words outcome }
 {}

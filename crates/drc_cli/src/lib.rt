@@ -11,25 +11,30 @@
 #![tactic(auto)]
 
 mod answer;
+mod buffer;
 mod command;
 mod decide;
 mod deck;
+mod deck_kind;
+mod ending;
 mod file_name;
 mod laws;
 mod layout;
+mod lines;
+mod printable;
 mod publish;
 mod read;
 mod ready;
-mod refusal;
 mod refuse;
 mod short_runs;
 mod text;
 mod top;
 mod whole;
 
-pub use answer::{DeckKind, DeckRefusal, Report, Status, Which};
-pub use laws::{one_deck, one_layout_answer};
-pub use top::run;
+pub use answer::{Report, Status, Which};
+pub use deck_kind::{DeckKind, DeckRefusal};
+pub use laws::{one_deck, one_layout_answer, one_outcome, some_outcome};
+pub use top::{run, run_without_memory};
 
 #[cfg(test)]
 mod tests;

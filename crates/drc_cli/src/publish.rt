@@ -1,20 +1,23 @@
-//! The results file is written, and lines are said.
-ghost use Rattle.std.specs.Prelude.{◌≡◌, ◌++◌, codes, decimal, IsTrue, string_bytes};
-ghost use Rattle.drc_cli.specs.Lines.{refusal_line};
-ghost use Rattle.drc_cli.specs.Whole.{say_all_tally, SaysAll};
-ghost use Rattle.drc_cli.specs.Publish.{write_file_tally, WritesFile, IsPublishedTally, IsPublished};
+//! The results file is written, and the line of the command is said.
+ghost use Rattle.std.specs.Prelude.{◌≡◌, string_bytes};
+ghost use Rattle.drc_ports.specs.Files.{world};
+ghost use Rattle.drc_cli.specs.declared.answer.Which.TheVariants.{Results};
+ghost use Rattle.drc_cli.specs.Working.Decide.{last_steps};
+ghost use Rattle.drc_cli.specs.Outcome.{writes};
+ghost use Rattle.drc_cli.specs.Run.{EndsAs};
+ghost use Rattle.drc_cli.specs.Working.Endings.{said_status};
+ghost use Rattle.drc_cli.specs.Working.Tries.{Tries};
 
 use crate::answer::{Status, Which};
+use crate::lines::say_three;
 use crate::ready::Ready;
 use crate::whole::{say_all, write_all};
 use drc_ports::{Failed, Files};
-use itoa::Buffer;
 
 /// Makes the file, writes its text, and says the line. Where the file can't be written, says which it is.
 pub fn write_results<F: Files>(files: &mut F, ready: Ready) -> Status
     requires named { ready.name ≡ string_bytes ready.file }
-    ensures counts { IsPublishedTally result ready.name (F.tally files.old) (F.tally files.new) }
-    ensures told { IsTrue F.tells → IsPublished result ready.name ready.text.items ready.line.items (F.tally files.old) (F.tally files.new) (F.contents files.old) (F.contents files.new) }
+    ensures { EndsAs (record { status = Status.Done; steps = last_steps ready }) result F.tells (world (F.tally files.old) (F.contents files.old)) (world (F.tally files.new) (F.contents files.new)) }
 {
     let Ready {
         file,
@@ -27,74 +30,25 @@ pub fn write_results<F: Files>(files: &mut F, ready: Ready) -> Status
             let _ = say_three(files, b"write ", name.bytes(), b"\n");
             Status::WriteFault(Which::Results)
         }
-        Ok(()) => match say_all(files, &line) {
-            Err(_) => Status::WriteFault(Which::Output),
-            Ok(()) => Status::Done,
-        },
+        Ok(()) => said_status(say_all(files, &line)),
+    }
+}
+
+/// The status of a command that is done but for its line.
+fn said_status(said: Result<(), Failed>) -> Status
+    ensures { result ≡ said_status said }
+{
+    match said {
+        Ok(()) => Status::Done,
+        Err(_) => Status::WriteFault(Which::Output),
     }
 }
 
 fn write_file<F: Files>(files: &mut F, file: String, text: &[u8]) -> Result<(), Failed>
-    ensures counts { F.tally files.new ≡ write_file_tally (string_bytes file) result (F.tally files.old) (F.tally files.new) }
-    ensures written { IsTrue F.tells → WritesFile (string_bytes file) text.now result (F.contents files.old) (F.contents files.new) }
+    ensures { Tries F.tells (writes Results (string_bytes file) text.now) result (world (F.tally files.old) (F.contents files.old)) (world (F.tally files.new) (F.contents files.new)) }
 {
     match files.create(file) {
         Err(failed) => Err(failed),
         Ok(()) => write_all(files, text),
-    }
-}
-
-/// Says three pieces, one after the other.
-pub fn say_three<F: Files>(
-    files: &mut F,
-    first: &[u8],
-    second: &[u8],
-    third: &[u8],
-) -> Result<(), Failed>
-    ensures counts { F.tally files.new ≡ say_all_tally result (F.tally files.old) }
-    ensures said { IsTrue F.tells → SaysAll (first.now ++ second.now ++ third.now) result (F.contents files.old) (F.contents files.new) }
-{
-    match say_two(files, first, second) {
-        Err(failed) => Err(failed),
-        Ok(()) => say_all(files, third),
-    }
-}
-
-fn say_two<F: Files>(files: &mut F, first: &[u8], second: &[u8]) -> Result<(), Failed>
-    ensures counts { F.tally files.new ≡ say_all_tally result (F.tally files.old) }
-    ensures said { IsTrue F.tells → SaysAll (first.now ++ second.now) result (F.contents files.old) (F.contents files.new) }
-{
-    match say_all(files, first) {
-        Err(failed) => Err(failed),
-        Ok(()) => say_all(files, second),
-    }
-}
-
-/// Says the line of a refusal: what is refused, the number of the reason, the offset, and the reason's word.
-pub fn say_refusal<F: Files>(
-    files: &mut F,
-    refused: &[u8],
-    number: u32,
-    at: u64,
-    word: &[u8],
-) -> Result<(), Failed>
-    ensures counts { F.tally files.new ≡ say_all_tally result (F.tally files.old) }
-    ensures said { IsTrue F.tells → SaysAll (refusal_line refused.now number at word.now) result (F.contents files.old) (F.contents files.new) }
-{
-    let mut digits = Buffer::new();
-    match say_three(files, refused, b" ", digits.format(number).as_bytes()) {
-        Err(failed) => Err(failed),
-        Ok(()) => say_place(files, at, word),
-    }
-}
-
-fn say_place<F: Files>(files: &mut F, at: u64, word: &[u8]) -> Result<(), Failed>
-    ensures counts { F.tally files.new ≡ say_all_tally result (F.tally files.old) }
-    ensures said { IsTrue F.tells → SaysAll (codes " at " ++ decimal at ++ codes " " ++ word.now ++ codes "\n") result (F.contents files.old) (F.contents files.new) }
-{
-    let mut digits = Buffer::new();
-    match say_three(files, b" at ", digits.format(at).as_bytes(), b" ") {
-        Err(failed) => Err(failed),
-        Ok(()) => say_two(files, word, b"\n"),
     }
 }

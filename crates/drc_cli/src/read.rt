@@ -1,13 +1,11 @@
 //! A file that is read whole.
-ghost use Rattle.std.specs.Prelude.{◌≡◌, ◌≤◌, ◌++◌, List, ℕ, [], IsTrue, IfOk, length, vec_len};
-ghost use Rattle.drc_cli.specs.Read.{read_whole_tally, ReadsWhole};
+ghost use Rattle.std.specs.Prelude.{◌≡◌, ◌≤◌, ◌++◌, List, ℕ, [], IsTrue, IfOk, length};
+ghost use Rattle.drc_cli.specs.Working.Read.{read_whole_tally, ReadsWhole};
 ghost use Rattle.drc_cli.specs.declared.read.ReadEnd.TheVariants.{Memory};
 
+use crate::buffer::buffer;
 use drc_ports::Files;
 use std::alloc::{AllocError, Global};
-
-/// How many bytes are asked for at once.
-const PIECE: usize = 65_536;
 
 /// Why a file wasn't read.
 #[derive(Debug, Drop)]
@@ -26,20 +24,13 @@ impl From<AllocError> for ReadEnd {
     }
 }
 
-/// Room for so many bytes.
-fn buffer(alloc: Global, length: usize) -> Result<Vec<u8>, AllocError>
-    ensures { IfOk result (λ buffer. vec_len buffer ≡ length) }
-{
-    vec![in alloc; 0u8; length]
-}
-
 /// The rest of the file being read; where it is longer than the limit, more than so many bytes of its front.
 pub fn read_whole<F: Files>(alloc: Global, files: &mut F, limit: usize) -> Result<Vec<u8>, ReadEnd>
     requires started { IsTrue (F.tally files.old).started }
     ensures counts { F.tally files.new ≡ read_whole_tally result (F.tally files.old) }
     ensures bytes { IsTrue F.tells → ReadsWhole limit result (F.contents files.old) (F.contents files.new) }
 {
-    let mut buffer = buffer(alloc, PIECE)?;
+    let mut buffer = buffer(alloc)?;
     let mut bytes = Vec::new(alloc);
     'pieces: while bytes.len() <= limit {
         match files.read(&mut buffer) {

@@ -1,10 +1,12 @@
 //! The short runs of the boundary of rectangles.
 
-ghost use Rattle.std.specs.Prelude.{◌≡◌, pos, int_lt, IfOk};
+ghost use Rattle.std.specs.Prelude.{◌≡◌, IfOk};
 ghost use Rattle.std.specs.List.{AllByRecursion};
+ghost use Rattle.list_facts.specs.InOrder.{ListsInOrder};
 ghost use Rattle.drc_geom.specs.Squares.{IsRect, covered};
-ghost use Rattle.drc_geom.specs.Runs.{ListsInOrder, length_of};
-ghost use Rattle.drc_cli.specs.ShortRuns.{IsShortRun, short_of};
+ghost use Rattle.drc_geom.specs.Runs.{length_of, run_order};
+ghost use Rattle.drc_cli.specs.ShortRuns.{IsShortRun, is_shorter};
+ghost use Rattle.drc_cli.specs.Working.ShortRuns.{short_of};
 
 use drc_geom::{Rect, Run};
 use edge_of_region::boundary;
@@ -15,7 +17,7 @@ use std::alloc::{AllocError, Global};
 /// bound is in database units. Errs only where memory runs out.
 pub fn short_runs(alloc: Global, rects: Vec<Rect>, bound: u32) -> Result<Vec<Run>, AllocError>
     requires proper { AllByRecursion IsRect rects.items }
-    ensures { IfOk result (λ runs. ListsInOrder (IsShortRun (covered rects.items) bound) runs.items) }
+    ensures { IfOk result (λ runs. ListsInOrder run_order (IsShortRun (covered rects.items) bound) runs.items) }
 {
     let region = merge(alloc, &rects)?;
     // a large layer's rectangles are needed no more
@@ -37,7 +39,7 @@ fn shorter_than(alloc: Global, runs: &[Run], bound: u32) -> Result<Vec<Run>, All
 }
 
 fn is_short(run: &Run, bound: u32) -> bool
-    ensures { result ≡ int_lt (length_of run.now) (pos bound) }
+    ensures { result ≡ is_shorter bound (length_of run.now) }
 {
     // a length beyond the type is as far above each bound, or below it, as the type's last value
     run.hi.saturating_sub(run.lo) < i64::from(bound)

@@ -295,6 +295,7 @@ fn words_that_are_refused(rt: HostRuntime) -> Result<(), Fail> {
         "check --date  a.svrf",
         "check a.svrf --date T1",
         "check --workers 1 a.svrf",
+        "check --date T1 --date T1 a.svrf",
     ] {
         assert!(rt;
             answers(&rt, rt.alloc(), line, Status::Words, b"words\n")?,

@@ -1,20 +1,19 @@
 //! The top call: what the program does.
 ghost use Rattle.std.specs.Prelude.{◌≡◌, ◌⊎◌, ◌↔◌, List, IsTrue, map, string_bytes};
-ghost use Rattle.drc_geom.specs.declared.rect.Rect.{Rect as Rectangle};
-ghost use Rattle.gds_records.specs.declared.fault.LayoutRefusal.{LayoutRefusal};
 ghost use Rattle.drc_ports.specs.Counts.{Rose};
-ghost use Rattle.drc_geom.specs.declared.rect.Rect.{Rect as Rectangle};
-ghost use Rattle.drc_cli.specs.Command.{Check, Asks, AreRefused, check_of};
-ghost use Rattle.drc_cli.specs.declared.answer.DeckRefusal.{DeckRefusal};
-ghost use Rattle.drc_cli.specs.Deck.{Deck};
-ghost use Rattle.drc_cli.specs.Check.{HasDeck, HasLayout, RefusesDeck, RefusesLayout};
-ghost use Rattle.drc_cli.specs.Run.{IsCounted, IsTold, IsRefused, HasResults, NoneRose};
+ghost use Rattle.drc_ports.specs.Files.{world};
+ghost use Rattle.drc_cli.specs.Working.CommandEnds.{CommandEnds};
+ghost use Rattle.drc_cli.specs.Command.{CheckRequest as Request, check as asked_check, AsksForCheck, AreRefused};
+ghost use Rattle.drc_cli.specs.Working.CommandView.{request_of};
+ghost use Rattle.drc_cli.specs.Meaning.{Due};
+ghost use Rattle.drc_cli.specs.Outcome.{Outcome};
+ghost use Rattle.drc_cli.specs.Run.{Ends, IsOutOfMemory, IsWhole, NoneFailed, HasResults, IsRefusal, MakesNothing};
 
 use crate::answer::{Report, Status};
-use crate::command::{Command, command_of};
+use crate::command::{CheckRequest, Command, command_of};
 use crate::decide::decide_check;
 use crate::publish::write_results;
-use crate::refuse::{say_line, status_after};
+use crate::refuse::{say_ending, status_of};
 use crate::whole::say_all;
 use drc_ports::{Files, Gate};
 use std::alloc::Global;
@@ -30,65 +29,51 @@ pub fn run<R: Threads + Wait + Sync, F: Files, G: Gate + Sync>(
     files: &mut F,
     _gate: &G,
 ) -> Report
-    // The answer is Words exactly where the words ask for nothing that is served; that is said, and nothing else done.
+    // The answer is Words exactly where the words ask for nothing that is served.
     ensures words { (result.status ≡ Status.Words) ↔ AreRefused (map string_bytes words.now) }
-    ensures words_counts { result.status ≡ Status.Words
-        → F.tally files.new ≡ record (F.tally files.old) { say_faults = (F.tally files.new).say_faults } }
-    ensures words_said { IsTrue F.tells → result.status ≡ Status.Words
-        → IsRefused Status.Words (F.tally files.old) (F.tally files.new) (F.contents files.old) (F.contents files.new) }
 
-    // Any other answer is one to a check that the words ask for.
-    ensures asked { (result.status ≡ Status.Words) ⊎ ((check : Check) × Asks (map string_bytes words.now) check) }
+    // The run ends with the outcome that the words mean, or at a step of it that fails, or for want of memory.
+    ensures ended { Ends (map string_bytes words.now) result.status F.tells (world (F.tally files.old) (F.contents files.old)) (world (F.tally files.new) (F.contents files.new)) }
 
     // Done: the results file holds exactly the bytes that deck and layout mean, and the line is said.
     ensures results { IsTrue F.tells → result.status ≡ Status.Done
-        → (check : Check) × Asks (map string_bytes words.now) check × HasResults check (F.contents files.old) (F.contents files.new) }
+        → (request : Request) × AsksForCheck (map string_bytes words.now) request × HasResults request (F.contents files.old) (F.contents files.new) }
 
-    // Each other answer has its cause in the counts, which are always known ..
-    ensures counts { (check : Check) → Asks (map string_bytes words.now) check
-        → IsCounted check result.status (F.tally files.old) (F.tally files.new) }
+    // Any answer but Done and a failure to write comes before a file is made.
+    ensures unmade { IsRefusal result.status
+        → MakesNothing F.tells (world (F.tally files.old) (F.contents files.old)) (world (F.tally files.new) (F.contents files.new)) }
 
-    // .. and in the files, where they are told; and what is said and made after each is known.
-    ensures told { IsTrue F.tells → (check : Check) → Asks (map string_bytes words.now) check
-        → IsTold check result.status (F.tally files.old) (F.tally files.new) (F.contents files.old) (F.contents files.new) }
+    // Where no call fails, the outcome that is due over the files that are held is what happens, unless memory runs out ..
+    ensures complete { IsTrue F.tells → (outcome : Outcome) → Due (F.contents files.old).held (map string_bytes words.now) outcome
+        → NoneFailed (F.tally files.old) (F.tally files.new)
+        → IsWhole outcome result.status F.tells (world (F.tally files.old) (F.contents files.old)) (world (F.tally files.new) (F.contents files.new)) ⊎ (result.status ≡ Status.NoMemory) }
 
-    // A deck and a layout that are accepted give Done, where no call fails and memory doesn't run out ..
-    ensures complete { IsTrue F.tells → (check : Check) → Asks (map string_bytes words.now) check
-        → (d : Deck) → HasDeck (F.contents files.old).held check d
-        → (rects : List Rectangle) → HasLayout (F.contents files.old).held d rects
-        → NoneRose (F.tally files.old) (F.tally files.new) → (result.status ≡ Status.Done) ⊎ (result.status ≡ Status.NoMemory) }
-
-    // .. a deck that is refused gives its refusal, where no read fails ..
-    ensures deck_refused { IsTrue F.tells → (check : Check) → Asks (map string_bytes words.now) check
-        → (refusal : DeckRefusal) → RefusesDeck (F.contents files.old).held check refusal
+    // .. and what is refused is refused so, where no read fails.
+    ensures refused { IsTrue F.tells → (outcome : Outcome) → Due (F.contents files.old).held (map string_bytes words.now) outcome
+        → IsRefusal outcome.status
         → (Rose (F.tally files.old).read_faults (F.tally files.new).read_faults → ⊥)
-        → (result.status ≡ Status.Deck refusal) ⊎ (result.status ≡ Status.NoMemory) }
-
-    // .. and so does a layout that is refused.
-    ensures layout_refused { IsTrue F.tells → (check : Check) → Asks (map string_bytes words.now) check
-        → (refusal : LayoutRefusal) → RefusesLayout (F.contents files.old).held check refusal
-        → (Rose (F.tally files.old).read_faults (F.tally files.new).read_faults → ⊥)
-        → (result.status ≡ Status.Layout refusal) ⊎ (result.status ≡ Status.NoMemory) }
+        → (result.status ≡ outcome.status) ⊎ (result.status ≡ Status.NoMemory) }
 {
     Report {
         status: answer(alloc, words, files),
     }
 }
 
+/// The end of a run whose words can't be kept for want of memory.
+pub fn run_without_memory<F: Files>(files: &mut F) -> Report
+    ensures { IsOutOfMemory result.status F.tells (world (F.tally files.old) (F.contents files.old)) (world (F.tally files.new) (F.contents files.new)) }
+{
+    let _ = say_all(files, b"memory\n");
+    Report {
+        status: Status::NoMemory,
+    }
+}
+
 fn answer<F: Files>(alloc: Global, words: &[String], files: &mut F) -> Status
-    ensures words { (result ≡ Status.Words) ↔ AreRefused (map string_bytes words.now) }
-    ensures asked { (result ≡ Status.Words) ⊎ ((check : Check) × Asks (map string_bytes words.now) check) }
-    ensures words_counts { result ≡ Status.Words
-        → F.tally files.new ≡ record (F.tally files.old) { say_faults = (F.tally files.new).say_faults } }
-    ensures words_said { IsTrue F.tells → result ≡ Status.Words
-        → IsRefused Status.Words (F.tally files.old) (F.tally files.new) (F.contents files.old) (F.contents files.new) }
-    ensures counts { (check : Check) → Asks (map string_bytes words.now) check
-        → IsCounted check result (F.tally files.old) (F.tally files.new) }
-    ensures told { IsTrue F.tells → (check : Check) → Asks (map string_bytes words.now) check
-        → IsTold check result (F.tally files.old) (F.tally files.new) (F.contents files.old) (F.contents files.new) }
+    ensures { Ends (map string_bytes words.now) result F.tells (world (F.tally files.old) (F.contents files.old)) (world (F.tally files.new) (F.contents files.new)) }
 {
     match command_of(words) {
-        Some(command) => check(alloc, &command, files),
+        Some(Command::Check(request)) => check(alloc, &request, files),
         None => {
             let _ = say_all(files, b"words\n");
             Status::Words
@@ -96,17 +81,14 @@ fn answer<F: Files>(alloc: Global, words: &[String], files: &mut F) -> Status
     }
 }
 
-fn check<F: Files>(alloc: Global, command: &Command<'_>, files: &mut F) -> Status
-    ensures served { result ≡ Status.Words → ⊥ }
-    ensures counts { IsCounted (check_of command.now) result (F.tally files.old) (F.tally files.new) }
-    ensures told { IsTrue F.tells
-        → IsTold (check_of command.now) result (F.tally files.old) (F.tally files.new) (F.contents files.old) (F.contents files.new) }
+fn check<F: Files>(alloc: Global, request: &CheckRequest<'_>, files: &mut F) -> Status
+    ensures { CommandEnds (asked_check (request_of request.now)) result F.tells (world (F.tally files.old) (F.contents files.old)) (world (F.tally files.new) (F.contents files.new)) }
 {
-    match decide_check(alloc, command, files) {
+    match decide_check(alloc, request, files) {
         Ok(ready) => write_results(files, ready),
-        Err(refusal) => {
-            let _ = say_line(files, &refusal);
-            status_after(&refusal)
+        Err(ending) => {
+            let _ = say_ending(files, &ending);
+            status_of(&ending)
         }
     }
 }

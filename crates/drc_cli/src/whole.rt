@@ -1,13 +1,15 @@
 //! Pieces that are given whole to a call that may take a front of them.
 ghost use Rattle.std.specs.Prelude.{◌≡◌, IsTrue, List, ℕ, Some};
-ghost use Rattle.drc_cli.specs.Whole.{say_all_tally, SaysAll, write_all_tally, WritesAll};
+ghost use Rattle.drc_ports.specs.Files.{world};
+ghost use Rattle.drc_cli.specs.Outcome.{says};
+ghost use Rattle.drc_cli.specs.Working.Tries.{Tries};
+ghost use Rattle.drc_cli.specs.Working.Whole.{write_all_tally, WritesAll};
 
 use drc_ports::{Failed, Files};
 
 /// Says all of the bytes. Where a call fails a front of them was said, and the failure is handed on.
 pub fn say_all<F: Files>(files: &mut F, bytes: &[u8]) -> Result<(), Failed>
-    ensures counts { F.tally files.new ≡ say_all_tally result (F.tally files.old) }
-    ensures said { IsTrue F.tells → SaysAll bytes.now result (F.contents files.old) (F.contents files.new) }
+    ensures { Tries F.tells (says bytes.now) result (world (F.tally files.old) (F.contents files.old)) (world (F.tally files.new) (F.contents files.new)) }
 {
     let mut rest = bytes;
     while !rest.is_empty() {

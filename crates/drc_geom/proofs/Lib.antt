@@ -1,6 +1,5 @@
-pub mod Members
-pub mod Ascending
+pub mod RunUnits
 pub mod MaximalRuns
-pub mod Covering
-pub mod SeparateSides
-pub mod Turning
+pub mod Boundaries
+pub mod Lengths
+mod Turning

@@ -1,7 +1,7 @@
 pub mod Squares
 pub mod Units
 pub mod Runs
-pub mod Separate
+pub mod Lengths
 pub mod RunOrder
 pub mod Turns
 pub mod Winding

@@ -1,5 +1,6 @@
 -- The laws of run order: it is total, ties equal runs alone, and at equal ends and sides compares by the last column.
-use Rattle.std.proofs.Common.{◌≡◌, ℕ, ◌==◌, Bool, true, false, cond, ◌&&◌, ℤ, ◌<ℤ◌, ◌-ℤ◌, refl, sym, ap, subst, ◌∙◌, arith, rules}
+use Rattle.std.proofs.Common.{◌≡◌, ℕ, ◌==◌, Bool, true, cond, ◌&&◌, ℤ, ◌<ℤ◌, ◌-ℤ◌, refl, sym, ap, subst, ◌∙◌, arith, rules}
+use Rattle.std.proofs.lemmas.Bool.{and_from}
 use Rattle.std.proofs.lemmas.Int.{ints}
 use Rattle.std.specs.Cmp.{IsTotalOrder, IsPartialOrder, po, both_ways, Equal-is, then_total, on_total, tied_itself, nat_cmp_total, int_cmp_total, int_eq_equiv, ranked, int_ranked, int_ranks, int_cmp_is, signed_Decides, first_so, second_so}
 use Rattle.std.specs.Ordering.{nat_cmp, int_cmp, int_eq, is_eq, as_partial_cmp, ordering_then, MatchOrdering}
@@ -34,26 +35,16 @@ side_at_rank W = refl
 pub same_side : (s t : Side) → side_rank s ≡ side_rank t → s ≡ t
 same_side s t e = sym (side_at_rank s) ∙ ap side_at e ∙ side_at_rank t
 
+one_place_at : (s : Side) (l o m p : ℤ) → end_x s l o ≡ end_x s m p → end_y s l o ≡ end_y s m p → (l ≡ m) × (o ≡ p)
+one_place_at N l o m p x y = (y, x)
+one_place_at S l o m p x y = (y, x)
+one_place_at E l o m p x y = (x, y)
+one_place_at W l o m p x y = (x, y)
+
 -- one side and one end: one line and one first column
-pub same_line : (s : Side) (l o m p : ℤ) → end_x s l o ≡ end_x s m p → end_y s l o ≡ end_y s m p → l ≡ m
-same_line N l o m p x y = y
-same_line S l o m p x y = y
-same_line E l o m p x y = x
-same_line W l o m p x y = x
-
-pub same_low : (s : Side) (l o m p : ℤ) → end_x s l o ≡ end_x s m p → end_y s l o ≡ end_y s m p → o ≡ p
-same_low N l o m p x y = x
-same_low S l o m p x y = x
-same_low E l o m p x y = y
-same_low W l o m p x y = y
-
-both_low : (s t : Side) (l o m p : ℤ) → s ≡ t → end_x s l o ≡ end_x t m p → end_y s l o ≡ end_y t m p → o ≡ p
-both_low s t l o m p e =
-    subst (λ u. end_x s l o ≡ end_x u m p → end_y s l o ≡ end_y u m p → o ≡ p) e (same_low s l o m p)
-
-both_line : (s t : Side) (l o m p : ℤ) → s ≡ t → end_x s l o ≡ end_x t m p → end_y s l o ≡ end_y t m p → l ≡ m
-both_line s t l o m p e =
-    subst (λ u. end_x s l o ≡ end_x u m p → end_y s l o ≡ end_y u m p → l ≡ m) e (same_line s l o m p)
+pub one_place : (s t : Side) (l o m p : ℤ) → s ≡ t → end_x s l o ≡ end_x t m p → end_y s l o ≡ end_y t m p → (l ≡ m) × (o ≡ p)
+one_place s t l o m p e =
+    subst (λ u. end_x s l o ≡ end_x u m p → end_y s l o ≡ end_y u m p → (l ≡ m) × (o ≡ p)) e (one_place_at s l o m p)
 
 first_tied : (p q : Ordering) → ordering_then p q ≡ Equal → p ≡ Equal
 first_tied Less q e = e
@@ -80,9 +71,8 @@ same_high a b c d e f = omega (arith, ints)
 tied_parts : (a b : Run) → int_cmp (end_y a.side a.line a.lo) (end_y b.side b.line b.lo) ≡ Equal → int_cmp (end_x a.side a.line a.lo) (end_x b.side b.line b.lo) ≡ Equal → nat_cmp (side_rank a.side) (side_rank b.side) ≡ Equal → (a.side ≡ b.side) × (a.line ≡ b.line) × (a.lo ≡ b.lo)
 tied_parts a b y x r =
     let s : a.side ≡ b.side = same_side a.side b.side (nat_tied (side_rank a.side) (side_rank b.side) r) in
-    let x' : end_x a.side a.line a.lo ≡ end_x b.side b.line b.lo = int_tied _ _ x in
-    let y' : end_y a.side a.line a.lo ≡ end_y b.side b.line b.lo = int_tied _ _ y in
-    (s, both_line a.side b.side a.line a.lo b.line b.lo s x' y', both_low a.side b.side a.line a.lo b.line b.lo s x' y')
+    let place = one_place a.side b.side a.line a.lo b.line b.lo s (int_tied _ _ x) (int_tied _ _ y) in
+    (s, place.0, place.1)
 
 -- runs that run order ties are equal
 pub run_order_ties : (a b : Run) → run_order a b ≡ Equal → a ≡ b
@@ -110,14 +100,10 @@ side_eq_itself S = refl
 side_eq_itself E = refl
 side_eq_itself W = refl
 
-both_true : (p q : Bool) → p ≡ true → q ≡ true → (p && q) ≡ true
-both_true true q e f = f
-both_true false q e f = e
-
 run_eq_itself : (a : Run) → run_eq a a ≡ true
 run_eq_itself a =
-    both_true _ _ (side_eq_itself a.side)
-    (both_true _ _ (int_eq_equiv.refl a.line) (both_true _ _ (int_eq_equiv.refl a.lo) (int_eq_equiv.refl a.hi)))
+    and_from _ _ (side_eq_itself a.side)
+    (and_from _ _ (int_eq_equiv.refl a.line) (and_from _ _ (int_eq_equiv.refl a.lo) (int_eq_equiv.refl a.hi)))
 
 run_eq_tells : (a b : Run) → run_eq a b ≡ true → a ≡ b
 run_eq_tells a b e =

@@ -1,5 +1,6 @@
 -- Sets of unit squares. Square (x, y) covers x to x + 1 and y to y + 1.
-use Rattle.std.specs.Prelude.{Bool, false, ◌&&◌, ◌||◌, ℤ, int_le, int_lt, List, [], ◌∷◌, ◌<ℤ◌}
+use Rattle.std.specs.Prelude.{Bool, false, ◌&&◌, ◌||◌, ℤ, List, [], ◌∷◌, ◌<ℤ◌}
+use Rattle.list_facts.specs.Between.{between}
 use Rattle.drc_geom.specs.declared.rect.Rect.{Rect}
 
 -- which squares a set has
@@ -13,7 +14,7 @@ pub record IsRect (r : Rect) : Type 0 where
 
 -- the squares that a rectangle covers
 abbrev pub squares_of : Rect → Squares
-squares_of r x y = (int_le r.x0 x && int_lt x r.x1) && (int_le r.y0 y && int_lt y r.y1)
+squares_of r x y = between r.x0 r.x1 x && between r.y0 r.y1 y
 
 -- the squares that some rectangle covers
 abbrev pub covered : List Rect → Squares

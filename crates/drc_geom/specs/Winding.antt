@@ -6,13 +6,14 @@
 --        v    (x, y)     ^
 --        |               |
 --      1,5 ------>------ 2
-use Rattle.std.specs.Prelude.{Bool, ◌&&◌, ℤ, pos, ◌+ℤ◌, ◌-ℤ◌, int_le, int_lt, if◌then◌else◌, List, [], ◌∷◌}
+use Rattle.std.specs.Prelude.{Bool, ◌&&◌, ℤ, pos, ◌+ℤ◌, ◌-ℤ◌, int_lt, if◌then◌else◌, List, [], ◌∷◌}
+use Rattle.list_facts.specs.Between.{between}
 use Rattle.drc_geom.specs.declared.point.Pt.{Pt}
 use Rattle.drc_geom.specs.declared.rect.Rect.{Rect}
 
 -- a step from a to b crosses row y upwards, on a line to the right of column x
 abbrev pub rises_beside : (a b : Pt) → (x y : ℤ) → Bool
-rises_beside a b x y = (int_le a.y y && int_lt y b.y) && int_lt x a.x
+rises_beside a b x y = between a.y b.y y && int_lt x a.x
 
 -- the upward steps to the right of square (x, y) that cross its row, less the downward ones
 abbrev pub winding : List Pt → (x y : ℤ) → ℤ

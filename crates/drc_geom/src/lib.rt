@@ -12,22 +12,24 @@
 //! ```
 #![tactic(auto)]
 
+mod length;
 mod name;
 mod point;
 mod rect;
 mod run;
-mod separate;
+mod run_of_unit;
 #[cfg(test)]
 mod tests;
 mod turn;
 mod unit;
 mod winding;
 
+pub use length::length_keeps_whole_runs;
 pub use name::Name;
 pub use point::Pt;
 pub use rect::Rect;
 pub use run::{Run, run_cmp};
-pub use separate::boundary_is_sides;
+pub use run_of_unit::one_run_of_a_unit;
 pub use turn::Turn;
 pub use unit::{Side, Unit};
 pub use winding::outline_winds_round_its_squares;

@@ -1,4 +1,4 @@
-use crate::{Name, Pt, Rect, Run, Side, Turn, run_cmp};
+use crate::{Name, Pt, Run, Side, Turn, run_cmp};
 use std::cmp::Ordering;
 use std::test::Fail;
 
@@ -37,23 +37,6 @@ fn a_name_lends_its_bytes(rt: HostRuntime) -> Result<(), Fail> {
     let name = Name::new(rt.alloc(), b"METAL1")?;
     assert_eq!(rt; name.bytes(), b"METAL1".as_slice());
     Ok(())
-}
-
-#[test]
-fn a_rectangle_has_four_sides(rt: HostRuntime) {
-    let rect = Rect {
-        x0: 0,
-        y0: 1,
-        x1: 4,
-        y1: 3,
-    };
-    let sides = [
-        run(Side::S, 1, 0, 4),
-        run(Side::E, 4, 1, 3),
-        run(Side::N, 3, 0, 4),
-        run(Side::W, 0, 1, 3),
-    ];
-    assert_eq!(rt; rect.sides().as_slice(), sides.as_slice());
 }
 
 #[test]

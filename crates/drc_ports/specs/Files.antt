@@ -30,6 +30,15 @@ pub record Contents : Type 0 where
   -- what was said
   pub said : List ℕ
 
+-- ---- Both
+
+pub record World : Type 0 where
+  pub tally : Tally
+  pub contents : Contents
+
+abbrev pub world : Tally → Contents → World
+world tally contents = record { tally = tally; contents = contents }
+
 -- ---- The calls, by what they answer. A call that fails changes nothing but the tally.
 
 -- begin_read opens a file that is held at its first byte

@@ -11,6 +11,7 @@ mod memory;
 mod plan;
 mod reading;
 mod real;
+mod retry;
 
 pub use failed::Failed;
 pub use files::Files;

@@ -2,15 +2,15 @@
 ghost use Rattle.std.specs.Prelude.{◌≡◌};
 
 use crate::counts::Counts;
+use crate::retry::{print_again, read_again, write_again};
 use crate::{Failed, Files};
 use std::alloc::Global;
-use std::io::{Read, Write};
 use std::{fs, rt};
 
 /// Files of the system by their paths, and its standard output. It tells nothing of what they contain.
 ///
-/// A call of the system that fails is a fault, and isn't tried again. After a `begin_read` that fails, the file
-/// that was open before is still read.
+/// A call of the system that fails is a fault. One that a signal interrupts has done nothing and is made again, a bounded
+/// number of times. After a `begin_read` that fails, the file that was open before is still read.
 #[derive(Drop)]
 pub struct RealFiles<'a, R: rt::Files + Print> {
     rt: &'a R,
@@ -63,7 +63,7 @@ impl<'a, R: rt::Files + Print> Files for RealFiles<'a, R> {
         let Some(reader) = &mut self.reader else {
             unreachable!();
         };
-        match reader.read(buf) {
+        match read_again(reader, buf) {
             Ok(count) => Ok(count),
             Err(_) => Err(self.counts.read_fault()),
         }
@@ -86,14 +86,14 @@ impl<'a, R: rt::Files + Print> Files for RealFiles<'a, R> {
         let Some(writer) = &mut self.writer else {
             unreachable!();
         };
-        match writer.write(bytes) {
+        match write_again(writer, bytes) {
             Ok(count) if count > 0 => Ok(count),
             _ => Err(self.counts.write_fault()),
         }
     }
 
     fn say(&mut self, bytes: &[u8]) -> Result<usize, Failed> {
-        match self.rt.write_some(bytes) {
+        match print_again(self.rt, bytes) {
             Ok(count) if count > 0 => Ok(count),
             _ => Err(self.counts.say_fault()),
         }

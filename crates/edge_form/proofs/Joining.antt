@@ -1,33 +1,27 @@
 -- One pass over placed pieces, which takes each into the run before it where they meet: the units stay, and gaps are left.
 use Rattle.std.proofs.Common.{◌≡◌, Bool, true, false, ◌&&◌, ◌||◌, ◌==◌, inl, inr, if◌then◌else◌, ℤ, ◌<ℤ◌, ◌≤ℤ◌, int_le, MatchBool, List, [], ◌∷◌, refl, sym, ap, subst, ◌∙◌, arith, eq-eqb}
-use Rattle.std.proofs.lemmas.Bool.{eqb-true}
+use Rattle.std.proofs.lemmas.Bool.{and_from, eqb-true}
 use Rattle.std.proofs.lemmas.Int.{ints, by_lt_z}
-use Rattle.std.specs.Cmp.{first_so, second_so, signed_Decides}
+use Rattle.std.specs.Cmp.{first_so, second_so}
 use Rattle.std.specs.List.{AllByRecursion}
 use Rattle.std.specs.List.Retain.{IsDeduped, DedupsFrom}
 use Rattle.std.specs.Ordering.{int_eq}
-use lib.Signed.{le_z_yes}
-use mathlib.Core.Bool.{true≢false}
+use Rattle.list_facts.proofs.Tests.{clash, eq_from_true, eq_true, le_false, le_from_true, le_true}
 use Rattle.drc_geom.specs.declared.unit.Side.{Side}
 use Rattle.drc_geom.specs.declared.run.Run.{Run}
-use Rattle.drc_geom.specs.Runs.{side_rank}
+use Rattle.drc_geom.specs.Runs.{IsRun, run_has, runs_have, side_rank}
 use Rattle.drc_geom.specs.RunOrder.{same_side}
-use Rattle.drc_geom.proofs.Covering.{not_true}
-use Rattle.edge_form.specs.Edges.{run_has, IsRun}
-use Rattle.edge_form.specs.Gathering.{meets, further, joined, IsSpaced, AreSpaced}
-use Rattle.edge_form.proofs.Held.{so, yes, both_true, IsOn, IsHeld, held, held_same}
-use Rattle.edge_form.proofs.Places.{Lower, lower_map, lower_here, IsPlaced, ArePlaced, placed_trans}
+use Rattle.drc_geom.proofs.RunUnits.{IsOn, IsHeld, held_same}
+use Rattle.edge_form.specs.Working.Gathering.{meets, further, joined, IsSpaced, AreSpaced}
+use Rattle.edge_form.proofs.PieceOrder.{Lower, lower_map, lower_here, IsNotBehind, AreInOrder, not_behind_trans}
 
 -- ---- the further of two columns
 
 further_up : (a b : ℤ) → a ≤ℤ b → further a b ≡ b
-further_up a b h = ap (λ t. if t then b else a) (yes (int_le a b) h.le)
+further_up a b h = ap (λ t. if t then b else a) (le_true a b h)
 
 further_down : (a b : ℤ) → b <ℤ a → further a b ≡ a
-further_down a b h =
-    ap (λ t. if t then b else a) (not_true (int_le a b) (λ e.
-    let k : a ≤ℤ b = le_z_yes (so (int_le a b) e) in
-    omega (arith, ints)))
+further_down a b h = ap (λ t. if t then b else a) (le_false a b h)
 
 further_left : (a b : ℤ) → a ≤ℤ further a b
 further_left a b = by_lt_z b a (λ l. let e = further_down a b l in omega (arith, ints)) (λ l. let e = further_up a b l in omega (arith, ints))
@@ -47,23 +41,23 @@ record Touches (k x : Run) : Type 0 where
   begins : k.lo ≤ℤ x.lo
   within : x.lo ≤ℤ k.hi
 
-touches_from_meets : (k x : Run) → IsPlaced k x → meets k x ≡ true → Touches k x
+touches_from_meets : (k x : Run) → IsNotBehind k x → meets k x ≡ true → Touches k x
 touches_from_meets k x p e =
     let f = first_so ((side_rank k.side == side_rank x.side) && int_eq k.line x.line) (int_le x.lo k.hi) e in
     let s = eqb-true _ _ (first_so (side_rank k.side == side_rank x.side) (int_eq k.line x.line) f) in
-    let l = (signed_Decides k.line x.line).0 (second_so (side_rank k.side == side_rank x.side) (int_eq k.line x.line) f) in
+    let l = eq_from_true k.line x.line (second_so (side_rank k.side == side_rank x.side) (int_eq k.line x.line) f) in
     record {
       one_side = sym (same_side k.side x.side s);
       one_line = sym l;
       begins = lower_here _ _ _ _ _ p s l;
-      within = le_z_yes (so (int_le x.lo k.hi) (second_so ((side_rank k.side == side_rank x.side) && int_eq k.line x.line) (int_le x.lo k.hi) e));
+      within = le_from_true x.lo k.hi (second_so ((side_rank k.side == side_rank x.side) && int_eq k.line x.line) (int_le x.lo k.hi) e);
     }
 
-spaced_unless_meets : (k x : Run) → IsPlaced k x → meets k x ≡ false → IsSpaced k x
+spaced_unless_meets : (k x : Run) → IsNotBehind k x → meets k x ≡ false → IsSpaced k x
 spaced_unless_meets k x p e =
     lower_map _ _ _ _ _ (k.hi <ℤ x.lo) p (λ s l b.
     by_lt_z k.hi x.lo (λ h. h) (λ h.
-    absurd (true≢false (sym (both_true _ _ (both_true _ _ (eq-eqb _ _ s) ((signed_Decides k.line x.line).1 l)) (yes (int_le x.lo k.hi) h.le)) ∙ e))))
+    clash (meets k x) (and_from _ _ (and_from _ _ (eq-eqb _ _ s) (eq_true k.line x.line l)) (le_true x.lo k.hi h)) e))
 
 module _ (k x : Run) (xs : List Run) (t : Touches k x) (side : Side) (line column : ℤ) where
   in_parts : IsOn (joined k x) side line column → IsHeld (k ∷ x ∷ xs) side line column
@@ -106,19 +100,19 @@ module _ (k x : Run) (xs : List Run) (t : Touches k x) (side : Side) (line colum
         ]
       ]
 
-  joined_units : held (joined k x ∷ xs) side line column ≡ held (k ∷ x ∷ xs) side line column
+  joined_units : runs_have (joined k x ∷ xs) side line column ≡ runs_have (k ∷ x ∷ xs) side line column
   joined_units = held_same (joined k x ∷ xs) (k ∷ x ∷ xs) side line column apart_held joined_held
 
 joined_run : (k x : Run) → IsRun k → IsRun (joined k x)
 joined_run k x h = let a : k.lo <ℤ k.hi = h in let b = further_left k.hi x.hi in omega (arith, ints)
 
-joined_placed : (k x : Run) (xs : List Run) → IsPlaced k x → ArePlaced (x ∷ xs) → ArePlaced (joined k x ∷ xs)
-joined_placed k x [] p h = tt
-joined_placed k x (y ∷ xs) p h = (placed_trans k x y p h.0, h.1)
+joined_in_order : (k x : Run) (xs : List Run) → IsNotBehind k x → AreInOrder (x ∷ xs) → AreInOrder (joined k x ∷ xs)
+joined_in_order k x [] p h = tt
+joined_in_order k x (y ∷ xs) p h = (not_behind_trans k x y p h.0, h.1)
 
-rest_placed : (x : Run) (xs : List Run) → ArePlaced (x ∷ xs) → ArePlaced xs
-rest_placed x [] h = tt
-rest_placed x (y ∷ xs) h = h.1
+rest_in_order : (x : Run) (xs : List Run) → AreInOrder (x ∷ xs) → AreInOrder xs
+rest_in_order x [] h = tt
+rest_in_order x (y ∷ xs) h = h.1
 
 -- ---- the pass
 
@@ -137,7 +131,7 @@ spaced_more k x (y ∷ ys) h b s =
 
 -- ys are the pieces xs, joined
 pub record IsGathered (xs ys : List Run) : Type 0 where
-  pub units : (side : Side) (line column : ℤ) → held ys side line column ≡ held xs side line column
+  pub units : (side : Side) (line column : ℤ) → runs_have ys side line column ≡ runs_have xs side line column
   pub not_empty : AllByRecursion IsRun ys
   pub spaced : AreSpaced ys
 
@@ -152,10 +146,10 @@ pub record Takes (x k : Run) (b : Bool) (x' k' : Run) : Type 0 where
   pub run : k' ≡ (if b then joined k x else k)
 
 module _ {F : Type 0} (R : F → Run → Run → Bool → F → Run → Run → Type 0) (takes : (f : F) (x k : Run) (b : Bool) (g : F) (x' k' : Run) → R f x k b g x' k' → Takes x k b x' k') where
-  step : (k x : Run) (xs ys : List Run) (g : F) (b : Bool) (x' k' : Run) → IsRun k → IsRun x → IsPlaced k x → ArePlaced (x ∷ xs) → Takes x k b x' k' → ((f : F) (k : Run) (ys : List Run) → IsRun k → ArePlaced (k ∷ xs) → DedupsFrom R f k xs ys → IsGatheredFrom k xs ys) → MatchBool b (DedupsFrom R g k' xs ys) ((zs : List Run) × DedupsFrom R g x' xs zs × (ys ≡ k' ∷ zs)) → IsGatheredFrom k (x ∷ xs) ys
+  step : (k x : Run) (xs ys : List Run) (g : F) (b : Bool) (x' k' : Run) → IsRun k → IsRun x → IsNotBehind k x → AreInOrder (x ∷ xs) → Takes x k b x' k' → ((f : F) (k : Run) (ys : List Run) → IsRun k → AreInOrder (k ∷ xs) → DedupsFrom R f k xs ys → IsGatheredFrom k xs ys) → MatchBool b (DedupsFrom R g k' xs ys) ((zs : List Run) × DedupsFrom R g x' xs zs × (ys ≡ k' ∷ zs)) → IsGatheredFrom k (x ∷ xs) ys
   step k x xs ys g true x' k' r q p h t rest m =
       let touch = touches_from_meets k x p (sym t.told) in
-      let i = rest g (joined k x) ys (joined_run k x r) (joined_placed k x xs p h) (subst (λ u. DedupsFrom R g u xs ys) t.run m) in
+      let i = rest g (joined k x) ys (joined_run k x r) (joined_in_order k x xs p h) (subst (λ u. DedupsFrom R g u xs ys) t.run m) in
       record {
         gathered = record {
           units = λ side line column. i.gathered.units side line column ∙ joined_units k x xs touch side line column;
@@ -179,18 +173,18 @@ module _ {F : Type 0} (R : F → Run → Run → Bool → F → Run → Run → 
       } in
       subst (IsGatheredFrom k (x ∷ xs)) (sym e) all
 
-  pass : (xs : List Run) (f : F) (k : Run) (ys : List Run) → AllByRecursion IsRun xs → IsRun k → ArePlaced (k ∷ xs) → DedupsFrom R f k xs ys → IsGatheredFrom k xs ys
+  pass : (xs : List Run) (f : F) (k : Run) (ys : List Run) → AllByRecursion IsRun xs → IsRun k → AreInOrder (k ∷ xs) → DedupsFrom R f k xs ys → IsGatheredFrom k xs ys
   pass [] f k ys a r h d =
       let one : IsGatheredFrom k [] (k ∷ []) = record { gathered = record { units = λ side line column. refl; not_empty = (r, tt); spaced = tt }; begins = (refl, refl, refl) } in
       subst (IsGatheredFrom k []) (sym d) one
   pass (x ∷ xs) f k ys a r h d =
       step k x xs ys d.1 d.0 d.2 d.3 r a.0 h.0 h.1 (takes f x k d.0 d.1 d.2 d.3 d.4) (λ g l zs. pass xs g l zs a.1) d.5
 
-  all : (f : F) (xs ys : List Run) → AllByRecursion IsRun xs → ArePlaced xs → IsDeduped R f xs ys → IsGathered xs ys
+  all : (f : F) (xs ys : List Run) → AllByRecursion IsRun xs → AreInOrder xs → IsDeduped R f xs ys → IsGathered xs ys
   all f [] ys a h d =
       let none : IsGathered [] [] = record { units = λ side line column. refl; not_empty = tt; spaced = tt } in
       subst (IsGathered []) (sym d.told) none
   all f (x ∷ xs) ys a h d = (pass xs f x ys a.1 a.0 h d.told).gathered
 
-pub gathered : {F : Type 0} (R : F → Run → Run → Bool → F → Run → Run → Type 0) → ((f : F) (x k : Run) (b : Bool) (g : F) (x' k' : Run) → R f x k b g x' k' → Takes x k b x' k') → (f : F) (xs ys : List Run) → AllByRecursion IsRun xs → ArePlaced xs → IsDeduped R f xs ys → IsGathered xs ys
+pub gathered : {F : Type 0} (R : F → Run → Run → Bool → F → Run → Run → Type 0) → ((f : F) (x k : Run) (b : Bool) (g : F) (x' k' : Run) → R f x k b g x' k' → Takes x k b x' k') → (f : F) (xs ys : List Run) → AllByRecursion IsRun xs → AreInOrder xs → IsDeduped R f xs ys → IsGathered xs ys
 gathered R takes = all R takes

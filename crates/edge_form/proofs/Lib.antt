@@ -1,6 +1,5 @@
-pub mod Held
 pub mod Listed
 mod Pushing
-mod Places
+mod PieceOrder
 mod Joining
 mod Spaced

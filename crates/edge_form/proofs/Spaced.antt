@@ -1,40 +1,22 @@
 -- Runs with gaps between them, sorted by run order, are the form of the set of their units.
 use Rattle.std.proofs.Common.{◌≡◌, false, ◌⊎◌, inl, inr, ℤ, pos, ◌<ℤ◌, ◌≤ℤ◌, ◌-ℤ◌, List, [], ◌∷◌, refl, sym, ap, subst, ◌∙◌, arith}
 use Rattle.std.proofs.lemmas.Int.{ints}
-use Rattle.std.proofs.lemmas.List.Sorted.{IsPermutation-sym, Contains-permutation}
+use Rattle.std.proofs.lemmas.Bool.{false_from_ne_true}
+use Rattle.std.proofs.lemmas.List.Sorted.{IsPermutation-sym}
 use Rattle.std.specs.Cmp.{Equal-is}
 use Rattle.std.specs.List.{AllByRecursion, IsDistinct}
 use Rattle.std.specs.List.Sorted.{IsPermutation, IsSorted}
 use Rattle.std.specs.Ordering.{eq_by_cmp}
-use Rattle.drc_geom.specs.declared.unit.Side.{Side}
+use Rattle.list_facts.proofs.InOrder.{AreDifferent, different_permutation, ordered_from_sorted}
+use Rattle.list_facts.proofs.Members.{Has, all_from_has, has_holds, has_permuted}
 use Rattle.drc_geom.specs.declared.run.Run.{Run}
-use Rattle.drc_geom.specs.Runs.{side_rank, run_order, IsMaximalRun}
-use Rattle.drc_geom.specs.RunOrder.{run_order_ties}
-use Rattle.drc_geom.proofs.Ascending.{AreDifferent, different_permutation, ascending_from_sorted}
-use Rattle.drc_geom.proofs.Covering.{not_true}
-use Rattle.drc_geom.proofs.Members.{Has, has_from_contains, contains_from_has, has_holds}
-use Rattle.edge_form.specs.Edges.{units_of, IsRun, IsEdgeSet}
-use Rattle.edge_form.specs.Gathering.{IsSpaced, AreSpaced}
-use Rattle.edge_form.proofs.Held.{IsHeld, held_false, held_same, units_held, maximal_from_free, all_from_each}
-use Rattle.edge_form.proofs.Listed.{maximal_same}
-use Rattle.edge_form.proofs.Places.{lower_here, spaced_trans}
-
--- ---- a permutation has the same units
-
-pub has_permuted : (xs ys : List Run) (r : Run) → IsPermutation xs ys → Has xs r → Has ys r
-has_permuted xs ys r p h = has_from_contains ys r (Contains-permutation xs ys r p (contains_from_has xs r h))
-
-held_permuted : (xs ys : List Run) (side : Side) (line column : ℤ) → IsPermutation xs ys → IsHeld xs side line column → IsHeld ys side line column
-held_permuted xs ys side line column p h = record { run = h.run; listed = has_permuted xs ys h.run p h.listed; on = h.on }
-
-pub units_permuted : (xs ys : List Run) (x y : ℤ) (side : Side) → IsPermutation xs ys → units_of ys x y side ≡ units_of xs x y side
-units_permuted xs ys x y side p =
-    units_held ys x y side
-    ∙ held_same ys xs side _ _ (held_permuted ys xs side _ _ (IsPermutation-sym xs ys p)) (held_permuted xs ys side _ _ p)
-    ∙ sym (units_held xs x y side)
-
-pub each_permuted : (P : Run → Type 0) (xs ys : List Run) → IsPermutation xs ys → AllByRecursion P xs → AllByRecursion P ys
-each_permuted P xs ys p a = all_from_each P ys (λ r h. has_holds P xs r a (has_permuted ys xs r (IsPermutation-sym xs ys p) h))
+use Rattle.drc_geom.specs.Runs.{IsMaximalRun, IsRun, run_order, side_rank, units_of}
+use Rattle.drc_geom.specs.RunOrder.{run_order_ties, run_order_total}
+use Rattle.drc_geom.proofs.Boundaries.{maximal_same}
+use Rattle.drc_geom.proofs.RunUnits.{IsHeld, held_false, maximal_from_free, units_permuted}
+use Rattle.edge_form.specs.Edges.{IsEdgeSet}
+use Rattle.edge_form.specs.Working.Gathering.{IsSpaced, AreSpaced}
+use Rattle.edge_form.proofs.PieceOrder.{lower_here, spaced_trans}
 
 -- ---- any two runs of the list are one, or have a gap between them
 
@@ -100,12 +82,12 @@ module _ (runs : List Run) (filled : AllByRecursion IsRun runs) (spaced : AreSpa
 not_itself : (a : Run) → IsRun a → IsSpaced a a → ⊥
 not_itself a f h = let g = gap a a h refl refl in let k : a.lo <ℤ a.hi = f in omega (arith, ints)
 
-spaced_different : (runs : List Run) → AllByRecursion IsRun runs → AreSpaced runs → AreDifferent runs
+spaced_different : (runs : List Run) → AllByRecursion IsRun runs → AreSpaced runs → AreDifferent run_order run_order_total runs
 unfolding IsDistinct
 spaced_different [] r s = tt
 spaced_different (a ∷ runs) r s = (
-  all_from_each (λ b. eq_by_cmp run_order a b ≡ false) runs (λ b h.
-      not_true (eq_by_cmp run_order a b) (λ e.
+  all_from_has (λ b. eq_by_cmp run_order a b ≡ false) runs (λ b h.
+      false_from_ne_true (eq_by_cmp run_order a b) (λ e.
       let same : a ≡ b = run_order_ties a b ((Equal-is (run_order a b)).0 e) in
       not_itself a r.0 (subst (IsSpaced a) (sym same) (has_holds (IsSpaced a) runs b (all_behind a runs r.1 s) h)))),
   spaced_different runs r.1 (rest_spaced a runs s),
@@ -114,7 +96,7 @@ spaced_different (a ∷ runs) r s = (
 pub edge_set_from_spaced : (xs ys : List Run) → AllByRecursion IsRun xs → AreSpaced xs → IsPermutation xs ys → IsSorted run_order ys → IsEdgeSet ys
 edge_set_from_spaced xs ys r s p o =
     record {
-      ordered = ascending_from_sorted ys o (different_permutation xs ys p (spaced_different xs r s));
-      maximal = all_from_each (IsMaximalRun (units_of ys)) ys (λ run h.
-          maximal_same (units_of xs) (units_of ys) run (λ x y side. sym (units_permuted xs ys x y side p)) (spaced_maximal xs r s run (has_permuted ys xs run (IsPermutation-sym xs ys p) h)));
+      ordered = ordered_from_sorted run_order run_order_total ys o (different_permutation run_order run_order_total xs ys p (spaced_different xs r s));
+      maximal = all_from_has (IsMaximalRun (units_of ys)) ys (λ run h.
+          maximal_same (units_of xs) (units_of ys) run (λ x y side. sym (units_permuted xs ys p x y side)) (spaced_maximal xs r s run (has_permuted ys xs run (IsPermutation-sym xs ys p) h)));
     }

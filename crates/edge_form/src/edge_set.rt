@@ -3,8 +3,9 @@
 ghost use Rattle.std.specs.Prelude.{◌≡◌, [], ◌∷◌, ◌++◌, ℤ, IfOk, OnOk, OnErr};
 ghost use Rattle.std.specs.List.{AllByRecursion};
 ghost use Rattle.drc_geom.specs.declared.unit.Side.{Side};
-ghost use Rattle.drc_geom.specs.Runs.{IsAscending};
-ghost use Rattle.edge_form.specs.Edges.{IsClearOf, IsEdgeSet, IsRun, units_of};
+ghost use Rattle.std.specs.declared.cmp.Ordering.TheVariants.{Less};
+ghost use Rattle.drc_geom.specs.Runs.{IsRun, run_order, units_of};
+ghost use Rattle.edge_form.specs.Edges.{IsClearOf, IsEdgeSet};
 
 use crate::gathering::{join, sort_by_place, sort_by_run_order};
 use crate::lookup::finds;
@@ -55,7 +56,7 @@ impl EdgeSet {
     /// line. Where memory is wanting, nothing changes.
     pub fn push_run(&mut self, run: Run) -> Result<(), AllocError>
         requires not_empty { IsRun run }
-        requires last { IsAscending (self.old ++ run ∷ []) }
+        requires last { AllByRecursion (λ other. run_order other run ≡ Less) self.old }
         requires clear { IsClearOf self.old run }
         ensures ok { OnOk result (self.new ≡ self.old ++ run ∷ []) }
         ensures err { OnErr result (self.new ≡ self.old) }

@@ -2,11 +2,12 @@
 
 ghost use Rattle.std.specs.Prelude.{◌≡◌, ◌&&◌, ◌==◌, if◌then◌else◌};
 ghost use Rattle.std.specs.Ordering.{int_eq};
-ghost use Rattle.drc_geom.specs.Runs.{side_rank};
+ghost use Rattle.drc_geom.specs.Units.{AreSameUnits};
+ghost use Rattle.drc_geom.specs.Runs.{IsRun, side_rank, units_of};
 ghost use Rattle.std.specs.List.{AllByRecursion};
 ghost use Rattle.std.specs.List.Sorted.{IsSorted};
-ghost use Rattle.edge_form.specs.Edges.{AreSameUnits, IsEdgeSet, IsRun, units_of};
-ghost use Rattle.edge_form.specs.Gathering.{AreSpaced, further, joined, meets, place_order};
+ghost use Rattle.edge_form.specs.Edges.{IsEdgeSet};
+ghost use Rattle.edge_form.specs.Working.Gathering.{AreSpaced, further, joined, meets, place_order};
 
 use drc_geom::Run;
 use std::cmp::Ordering;

@@ -1,9 +1,10 @@
 //! Which units a run has.
 
-ghost use Rattle.std.specs.Prelude.{◌≡◌, ◌&&◌, ◌==◌, ℤ, pos, ◌+ℤ◌, int_le, int_lt};
+ghost use Rattle.std.specs.Prelude.{◌≡◌, ◌&&◌, ◌==◌, ℤ, pos, ◌+ℤ◌};
 ghost use Rattle.std.specs.Ordering.{int_eq};
-ghost use Rattle.drc_geom.specs.Runs.{side_rank};
-ghost use Rattle.edge_form.specs.Edges.{column_of, line_of, run_has, units_of};
+ghost use Rattle.list_facts.specs.Between.{between};
+ghost use Rattle.drc_geom.specs.Units.{column_of, line_of};
+ghost use Rattle.drc_geom.specs.Runs.{run_has, side_rank, units_of};
 
 use drc_geom::{Run, Side, Unit};
 
@@ -32,7 +33,7 @@ fn has_line(run: Run, unit: Unit) -> bool
 }
 
 fn has_column(run: Run, column: i64) -> bool
-    ensures { result ≡ (int_le run.lo column && int_lt column run.hi) }
+    ensures { result ≡ between run.lo run.hi column }
 {
     run.lo <= column && column < run.hi
 }

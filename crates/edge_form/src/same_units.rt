@@ -3,7 +3,8 @@
 ghost use Rattle.std.specs.Prelude.{List, ℤ, ◌≡◌};
 ghost use Rattle.drc_geom.specs.declared.run.Run.{Run};
 ghost use Rattle.drc_geom.specs.declared.unit.Side.{Side};
-ghost use Rattle.edge_form.specs.Edges.{IsEdgeSet, units_of};
+ghost use Rattle.drc_geom.specs.Runs.{units_of};
+ghost use Rattle.edge_form.specs.Edges.{IsEdgeSet};
 
 /// The law of sets of units: two that have the same units are the same list of runs.
 /// It is a statement, and does nothing when it is called.

@@ -1,6 +1,6 @@
 ghost use Rattle.std.specs.List.{AllByRecursion};
 ghost use Rattle.std.specs.Prelude.{◌≡◌};
-ghost use Rattle.edge_form.specs.Edges.{IsRun};
+ghost use Rattle.drc_geom.specs.Runs.{IsRun};
 
 use crate::EdgeSet;
 use drc_geom::Side::{E, N, S, W};

@@ -3,65 +3,53 @@
 use Rattle.std.proofs.Common.{◌≡◌, Bool, true, false, cond, not, ◌&&◌, ◌||◌, ℤ, pos, ◌-ℤ◌, ◌<ℤ◌, ◌≤ℤ◌, int_lt, Option, None, Some, List, [], ◌∷◌, refl, sym, ◌∙◌, arith}
 use Rattle.std.proofs.lemmas.Int.{ints, by_lt_z}
 use Rattle.std.specs.List.{AllByRecursion}
-use mathlib.Core.Bool.{true≢false}
+use Rattle.std.proofs.lemmas.Bool.{cond-false, cond-true, and_left}
+use Rattle.std.specs.Prelude.{not}
+use Rattle.drc_geom.specs.Runs.{IsRun, runs_have}
+use Rattle.list_facts.proofs.Tests.{lt_false, lt_true}
 use Rattle.drc_geom.specs.declared.unit.Side.{Side}
 use Rattle.drc_geom.specs.declared.unit.Side.TheVariants.{N, E, S, W}
 use Rattle.drc_geom.specs.declared.run.Run.{Run}
 use Rattle.drc_geom.specs.Squares.{Squares}
-use Rattle.drc_geom.specs.Units.{boundary, outside_x, outside_y}
+use Rattle.drc_geom.specs.Units.{boundary, outside_x, outside_y, column_of, line_of}
 use Rattle.interval_row.specs.declared.span.Span.{Span}
 use Rattle.interval_row.specs.Rows.{has}
-use Rattle.interval_row.proofs.Places.{lt_true, lt_false}
 use Rattle.region_form.specs.declared.flip.Flip.{Flip}
 use Rattle.region_form.specs.Flips.{squares, AreSorted}
-use Rattle.region_form.specs.Climbs.{Place, LiesBelow, ahead, first_line}
-use Rattle.region_form.proofs.Lines.{none_below_line}
-use Rattle.edge_form.specs.Edges.{IsRun, line_of, column_of}
-use Rattle.edge_of_region.specs.declared.standing.Standing.{Standing}
-use Rattle.edge_of_region.specs.Levels.{has_run}
-use Rattle.edge_of_region.specs.Uprights.{BeganBelow, stands}
-use Rattle.edge_of_region.proofs.RowEnds.{none_out, same_two}
+use Rattle.region_form.specs.Climbs.{Standpoint, LiesBelow, ahead, first_line}
+use Rattle.region_form.proofs.FlipLines.{none_below_line}
+use Rattle.edge_of_region.specs.declared.open_side.OpenSide.{OpenSide}
+use Rattle.edge_of_region.specs.Working.Uprights.{BeganBelow, stands}
 
 -- the squares below a line, and above it a row that goes on without end
 abbrev pub seen : List Flip → (top : ℤ) → List Span → Squares
 seen region top row x y = cond (int_lt y top) (squares region x y) (has row x)
 
 -- some side of this kind stands on this line and began at this row or below it
-abbrev pub stands_at : (west east : List Standing) → Side → (line row : ℤ) → Bool
+abbrev pub stands_at : (west east : List OpenSide) → Side → (line row : ℤ) → Bool
 stands_at west east W line row = stands west line row
 stands_at west east E line row = stands east line row
 stands_at west east N line row = false
 stands_at west east S line row = false
 
-pub record IsClimbing (region : List Flip) (place : Place) (pieces : List Run) (west east : List Standing) : Type 0 where
+pub record IsClimbing (region : List Flip) (place : Standpoint) (pieces : List Run) (west east : List OpenSide) : Type 0 where
   pub top : ℤ
   pub next : LiesBelow top (first_line place.flips)
   pub same : (x y : ℤ) → top ≤ℤ y → squares region x y ≡ ahead place x y
   pub runs : AllByRecursion IsRun pieces
-  pub units : (x y : ℤ) (side : Side) → (has_run pieces side (line_of side x y) (column_of side x y) || stands_at west east side (line_of side x y) (column_of side x y)) ≡ boundary (seen region top place.row) x y side
-  pub free_west : (l y : ℤ) → top ≤ℤ y → has_run pieces W l y ≡ false
-  pub free_east : (l y : ℤ) → top ≤ℤ y → has_run pieces E l y ≡ false
+  pub units : (x y : ℤ) (side : Side) → (runs_have pieces side (line_of side x y) (column_of side x y) || stands_at west east side (line_of side x y) (column_of side x y)) ≡ boundary (seen region top place.row) x y side
+  pub free_west : (l y : ℤ) → top ≤ℤ y → runs_have pieces W l y ≡ false
+  pub free_east : (l y : ℤ) → top ≤ℤ y → runs_have pieces E l y ≡ false
   pub west_began : (line : ℤ) → top <ℤ line → BeganBelow line west
   pub east_began : (line : ℤ) → top <ℤ line → BeganBelow line east
 
 -- ---- what is seen
 
-at_true : {A : Type 0} (b : Bool) (p q : A) → b ≡ true → cond b p q ≡ p
-at_true true p q e = refl
-at_true false p q e = absurd (true≢false (sym e))
-
-at_false : {A : Type 0} (b : Bool) (p q : A) → b ≡ false → cond b p q ≡ q
-at_false true p q e = absurd (true≢false e)
-at_false false p q e = refl
-
 pub seen_below : (region : List Flip) (top : ℤ) (row : List Span) (x y : ℤ) → y <ℤ top → seen region top row x y ≡ squares region x y
-seen_below region top row x y h = at_true (int_lt y top) _ _ (lt_true y top h)
+seen_below region top row x y h = cond-true (int_lt y top) _ _ (lt_true y top h)
 
 pub seen_above : (region : List Flip) (top : ℤ) (row : List Span) (x y : ℤ) → top ≤ℤ y → seen region top row x y ≡ has row x
-seen_above region top row x y h = at_false (int_lt y top) _ _ (lt_false y top h)
-
-pub same_boundary : (s t : Squares) (x y : ℤ) (side : Side) → ((x y : ℤ) → s x y ≡ t x y) → boundary s x y side ≡ boundary t x y side
-same_boundary s t x y side e = same_two (s x y) (s (outside_x side x) (outside_y side y)) _ _ (e x y) (e (outside_x side x) (outside_y side y))
+seen_above region top row x y h = cond-false (int_lt y top) _ _ (lt_false y top h)
 
 pub never : (p : Bool) → (p && not p) ≡ false
 never true = refl
@@ -104,7 +92,7 @@ climbing_start region s =
       runs = tt;
       units = λ x y side.
           none_stands side (line_of side x y) (column_of side x y)
-          ∙ sym (none_out (seen region u.line [] x y) (seen region u.line [] (outside_x side x) (outside_y side y)) (none_seen region u.line x y s u.under));
+          ∙ sym (and_left (seen region u.line [] x y) (not (seen region u.line [] (outside_x side x y) (outside_y side x y))) (none_seen region u.line x y s u.under));
       free_west = λ l y h. refl;
       free_east = λ l y h. refl;
       west_began = λ line h. tt;

@@ -1,7 +1,7 @@
-pub mod Pieces
-pub mod RowEnds
-pub mod Sides
-pub mod Turning
-pub mod Climbing
-pub mod Steps
-pub mod Summit
+mod RunLists
+mod RowEnds
+mod Sides
+mod Turning
+mod Climbing
+mod Steps
+mod Summit

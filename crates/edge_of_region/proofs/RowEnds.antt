@@ -3,24 +3,15 @@
 use Rattle.std.proofs.Common.{◌≡◌, Bool, true, false, not, ◌&&◌, ◌||◌, ℤ, pos, ◌-ℤ◌, ◌<ℤ◌, List, [], ◌∷◌, ◌++◌, refl, sym, ◌∙◌, ap, arith}
 use Rattle.std.proofs.lemmas.Int.{ints, by_lt_z}
 use Rattle.std.specs.Ordering.{int_eq}
-use Rattle.std.specs.Cmp.{signed_Decides}
 use mathlib.Core.Bool.{true≢false}
+use Rattle.std.proofs.lemmas.Bool.{and_left}
+use Rattle.list_facts.proofs.Tests.{or_assoc, eq_false, eq_true}
 use Rattle.drc_geom.specs.declared.unit.Side.{Side}
 use Rattle.drc_geom.specs.declared.unit.Side.TheVariants.{N, E, S, W}
 use Rattle.interval_row.specs.declared.span.Span.{Span}
 use Rattle.interval_row.specs.Rows.{has, IsRow}
-use Rattle.interval_row.proofs.Places.{has_inside, has_past, has_before, none_below, begins_down, or_assoc}
-use Rattle.edge_of_region.specs.Uprights.{end_of, has_upright}
-
-pub eq_true : (a b : ℤ) → a ≡ b → int_eq a b ≡ true
-eq_true a b e = (signed_Decides a b).1 e
-
-pub not_true : (b : Bool) → (b ≡ true → ⊥) → b ≡ false
-not_true true f = absurd (f refl)
-not_true false f = refl
-
-pub eq_false : (a b : ℤ) → (a ≡ b → ⊥) → int_eq a b ≡ false
-eq_false a b f = not_true (int_eq a b) (λ e. f ((signed_Decides a b).0 e))
+use Rattle.interval_row.proofs.Places.{has_inside, has_past, has_before, none_below, begins_down}
+use Rattle.edge_of_region.specs.Working.Uprights.{end_of, has_upright}
 
 -- one of the spans has this end on a line
 abbrev pub is_at : (Span → ℤ) → List Span → ℤ → Bool
@@ -49,10 +40,6 @@ begins_here true true e f = absurd (true≢false f)
 begins_here true false e f = refl
 begins_here false q e f = absurd (true≢false (sym e))
 
-pub none_out : (p q : Bool) → p ≡ false → (p && not q) ≡ false
-none_out true q e = absurd (true≢false e)
-none_out false q e = refl
-
 pub same_two : (p q r s : Bool) → p ≡ r → q ≡ s → (p && not q) ≡ (r && not s)
 same_two p q r s e f = ap (λ v. v && not q) e ∙ ap (λ v. r && not v) f
 
@@ -67,15 +54,15 @@ los (s ∷ ss) l r =
     (λ p.
     let n : has ss l ≡ false = none_below ss l r.2 (begins_down l s.hi ss p r.1) in
     let m : has ss (l -ℤ pos 1) ≡ false = none_below ss (l -ℤ pos 1) r.2 (begins_down (l -ℤ pos 1) s.hi ss (omega (arith, ints)) r.1) in
-    let j : is_at (λ s. s.lo) ss l ≡ false = i ∙ none_out _ _ n in
+    let j : is_at (λ s. s.lo) ss l ≡ false = i ∙ and_left _ _ n in
     by_lt_z l s.lo
     (λ q. skip _ _ _ (eq_false s.lo l (λ e. let k : s.lo ≡ l = e in omega (arith, ints)))
-    (j ∙ sym (none_out _ _ (has_before s ss l q ∙ n))))
+    (j ∙ sym (and_left _ _ (has_before s ss l q ∙ n))))
     (λ q. by_lt_z s.lo l
     (λ t. skip _ _ _ (eq_false s.lo l (λ e. let k : s.lo ≡ l = e in omega (arith, ints)))
     (j ∙ sym (by_lt_z l s.hi
     (λ u. both_in _ _ (has_inside s ss l q u) (has_inside s ss (l -ℤ pos 1) (omega (arith, ints)) (omega (arith, ints))))
-    (λ u. none_out _ _ (has_past s ss l u ∙ n)))))
+    (λ u. and_left _ _ (has_past s ss l u ∙ n)))))
     (λ t. found _ _ _ (eq_true s.lo l (omega (arith, ints)))
     (begins_here _ _ (has_inside s ss l q (omega (arith, ints))) (has_before s ss (l -ℤ pos 1) (omega (arith, ints)) ∙ m)))))
 
@@ -90,12 +77,12 @@ his (s ∷ ss) l r =
     (λ p.
     let n : has ss l ≡ false = none_below ss l r.2 (begins_down l s.hi ss p r.1) in
     let m : has ss (l -ℤ pos 1) ≡ false = none_below ss (l -ℤ pos 1) r.2 (begins_down (l -ℤ pos 1) s.hi ss (omega (arith, ints)) r.1) in
-    let j : is_at (λ s. s.hi) ss l ≡ false = i ∙ none_out _ _ m in
+    let j : is_at (λ s. s.hi) ss l ≡ false = i ∙ and_left _ _ m in
     by_lt_z l s.hi
     (λ q. skip _ _ _ (eq_false s.hi l (λ e. let k : s.hi ≡ l = e in omega (arith, ints)))
     (j ∙ sym (by_lt_z s.lo l
     (λ u. both_in _ _ (has_inside s ss (l -ℤ pos 1) (omega (arith, ints)) (omega (arith, ints))) (has_inside s ss l (omega (arith, ints)) q))
-    (λ u. none_out _ _ (has_before s ss (l -ℤ pos 1) (omega (arith, ints)) ∙ m)))))
+    (λ u. and_left _ _ (has_before s ss (l -ℤ pos 1) (omega (arith, ints)) ∙ m)))))
     (λ q. found _ _ _ (eq_true s.hi l (omega (arith, ints)))
     (begins_here _ _ (has_inside s ss (l -ℤ pos 1) (omega (arith, ints)) (omega (arith, ints))) (has_past s ss l q ∙ n))))
 

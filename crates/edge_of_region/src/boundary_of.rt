@@ -1,9 +1,23 @@
-//! The boundary of a region.
+//! The boundary of a region, in one climb.
+//!
+//! ```text
+//!               N
+//!            +-----+          y=3   closed here: W on line 2 and E on line 4, from row 2 up to row 3
+//!          W |     | E
+//!       +----+-----+          y=2   pieces of the line: N over the columns 0 and 1, where the row above lacks them.
+//!       |          | E              W on line 0 is closed, W on line 2 begins, E on line 4 goes on
+//!     W |          |
+//!       +----------+          y=0   S under the columns 0 to 3; W on line 0 and E on line 4 begin
+//!      x=0   x=2  x=4
+//! ```
+//!
+//! What lies on a line comes from the rows below and above it (`level`); an upright side is kept open from the line where
+//! it begins up to the line whose row no longer has it (`upright`).
 
 ghost use Rattle.std.specs.Prelude.{◌≡◌, ℤ, IfOk};
+ghost use Rattle.drc_geom.specs.Runs.{units_of};
 ghost use Rattle.drc_geom.specs.declared.unit.Side.{Side};
 ghost use Rattle.drc_geom.specs.Units.{boundary};
-ghost use Rattle.edge_form.specs.Edges.{units_of};
 ghost use Rattle.region_form.specs.Flips.{squares};
 
 use crate::level::push_level;

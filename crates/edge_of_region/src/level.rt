@@ -1,7 +1,7 @@
 //! The pieces of a boundary that lie on one line: S sides where a square begins, N sides where one ends.
 
 ghost use Rattle.std.specs.Prelude.{◌≡◌, ◌++◌, IfOk, OnOk};
-ghost use Rattle.edge_of_region.specs.Levels.{GetLevel, GetRow, laid};
+ghost use Rattle.edge_of_region.specs.Working.Levels.{GetLevel, GetRow, laid};
 
 use drc_geom::{Run, Side};
 use interval_row::{Row, Span};

@@ -14,7 +14,7 @@
 
 mod boundary_of;
 mod level;
-mod standing;
+mod open_side;
 #[cfg(test)]
 mod tests;
 mod upright;

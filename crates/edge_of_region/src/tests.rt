@@ -1,5 +1,5 @@
 use crate::boundary;
-use crate::standing::Standing;
+use crate::open_side::OpenSide;
 use crate::upright::turn;
 use drc_geom::{Run, Side};
 use interval_row::{Row, Span};
@@ -200,11 +200,11 @@ fn towers_on_one_base(rt: HostRuntime) -> Result<(), Fail> {
 #[test]
 fn a_side_goes_on_past_a_line(rt: HostRuntime) -> Result<(), Fail> {
     let below = [
-        Standing { line: 0, lo: 1 },
-        Standing { line: 2, lo: -1 },
-        Standing { line: 6, lo: 3 },
+        OpenSide { line: 0, lo: 1 },
+        OpenSide { line: 2, lo: -1 },
+        OpenSide { line: 6, lo: 3 },
     ];
-    let above = [Standing { line: 0, lo: 1 }, Standing { line: 4, lo: 5 }];
+    let above = [OpenSide { line: 0, lo: 1 }, OpenSide { line: 4, lo: 5 }];
     let row = row_of(rt.alloc(), &[span(0, 3), span(4, 7)])?;
     let mut pieces = Vec::new(rt.alloc());
     let turned = turn(rt.alloc(), Side::W, 5, &below, &row, &mut pieces)?;

@@ -1,9 +1,16 @@
 //! Upright sides, which stand from line to line of the region until the row no longer has them.
+//!
+//! ```text
+//! ends of the row above       2        7           W sides: where its spans begin
+//!                           --+--------+--
+//! sides from below        0   2    5               the side on 0 is closed at the line, that on 2 goes on,
+//!                         |   |    |               that on 5 is closed, and one on 7 begins
+//! ```
 
 ghost use Rattle.std.specs.Prelude.{◌≡◌, ◌++◌, ◌≤◌, ℕ, length, drop, IfOk, OnOk};
-ghost use Rattle.edge_of_region.specs.Uprights.{BeganBelow, GoesOn, Turns, closed, end_of};
+ghost use Rattle.edge_of_region.specs.Working.Uprights.{BeganBelow, GoesOn, Turns, closed, end_of, drawn};
 
-use crate::standing::Standing;
+use crate::open_side::OpenSide;
 use drc_geom::{Run, Side};
 use interval_row::{Row, Span};
 use std::alloc::{AllocError, Global};
@@ -14,13 +21,13 @@ pub fn turn(
     alloc: Global,
     side: Side,
     line: i64,
-    standing: &[Standing],
+    standing: &[OpenSide],
     row: &Row,
     pieces: &mut Vec<Run>,
-) -> Result<Vec<Standing>, AllocError>
+) -> Result<Vec<OpenSide>, AllocError>
     requires { BeganBelow line standing.now }
     ensures { IfOk result
-        (λ turned. Turns side line row.now pieces.old.items standing.now pieces.new.items turned.items) }
+        (λ turned. Turns side line row.now (drawn pieces.old.items standing.now) (drawn pieces.new.items turned.items)) }
 {
     let spans = row.list();
     let mut turned = Vec::with_capacity(alloc, spans.len())?;
@@ -47,7 +54,7 @@ fn end_of(side: Side, span: Span) -> i64
 }
 
 // The index of the first side from an index on that doesn't lie to the left of a line, or how many there are.
-fn reaching(standing: &[Standing], from: usize, end: i64) -> usize
+fn reaching(standing: &[OpenSide], from: usize, end: i64) -> usize
     requires { from ≤ length standing.now }
     ensures from { from ≤ result }
     ensures within { result ≤ length standing.now }
@@ -60,7 +67,7 @@ fn reaching(standing: &[Standing], from: usize, end: i64) -> usize
 }
 
 // Adds sides that end at a line to the pieces.
-fn close(pieces: &mut Vec<Run>, side: Side, line: i64, ended: &[Standing]) -> Result<(), AllocError>
+fn close(pieces: &mut Vec<Run>, side: Side, line: i64, ended: &[OpenSide]) -> Result<(), AllocError>
     ensures { OnOk result (pieces.new.items ≡ pieces.old.items ++ closed side line ended.now) }
 {
     for standing in ended {
@@ -76,7 +83,7 @@ fn close(pieces: &mut Vec<Run>, side: Side, line: i64, ended: &[Standing]) -> Re
 
 // The side that stands at an end of the row above a line, and the index behind it: the next side goes on where it lies
 // there, else one begins.
-fn go_on(standing: &[Standing], at: usize, end: i64, line: i64) -> (Standing, usize)
+fn go_on(standing: &[OpenSide], at: usize, end: i64, line: i64) -> (OpenSide, usize)
     requires within { at ≤ length standing.now }
     requires began { BeganBelow line standing.now }
     ensures within { result.1 ≤ length standing.now }
@@ -86,7 +93,7 @@ fn go_on(standing: &[Standing], at: usize, end: i64, line: i64) -> (Standing, us
         (standing[at], at + 1)
     } else {
         (
-            Standing {
+            OpenSide {
                 line: end,
                 lo: line,
             },

@@ -3,7 +3,7 @@ use Rattle.std.proofs.Common.{◌≡◌, ℕ, ◌+◌, ◌/◌, ◌%◌, ◌⊎�
 use Rattle.std.specs.List.{flat_map}
 use Rattle.std.proofs.lemmas.List.{append-nil, append_cancel_left, take_at, drop_at}
 use Rattle.std.proofs.lemmas.List.Concat.{flat_map-append}
-use Rattle.gds_records.specs.Records.{Item, size_of, spelling, endlib, IsGoodLength, ArePlaced, Cuts, end_of, EndsLibrary, IsEnd, AreRecords}
+use Rattle.gds_records.specs.Records.{Item, size_of, spelling, endlib, IsGoodLength, ArePlaced, Cuts, end_of, EndsLibrary, ComesNext, IsEnd, AreRecords}
 use Rattle.gds_records.proofs.Fronts.{whole_not_partial, whole_not_too_long, whole_not_bad_length}
 
 -- ---- A cut grows at its end
@@ -37,16 +37,16 @@ placed-push at (first ∷ next ∷ items) item placed goes here good =
 pub cuts-start : (bytes : List ℕ) → Cuts bytes [] bytes
 cuts-start bytes = record { whole = refl; placed = tt }
 
-pub cuts-push : (bytes : List ℕ) (items : List Item) (rest : List ℕ) (item : Item) (more : List ℕ) → Cuts bytes items rest → (EndsLibrary items → ⊥)
-    → rest ≡ spelling item ++ more → item.at ≡ end_of items → IsGoodLength (end_of items) (size_of item) → Cuts bytes (items ++ item ∷ []) more
-cuts-push bytes items rest item more cut goes front here good =
+pub cuts-push : (bytes : List ℕ) (items : List Item) (rest : List ℕ) (item : Item) (more : List ℕ) → Cuts bytes items rest → ComesNext items rest item more
+    → Cuts bytes (items ++ item ∷ []) more
+cuts-push bytes items rest item more cut next =
     let text : flat_map spelling items ++ (spelling item ++ more) ≡ flat_map spelling (items ++ item ∷ []) ++ more =
     sym (ap (λ (t : List ℕ). t ++ more) (flat_map-append spelling items (item ∷ [])) ∙ ap (λ (t : List ℕ). (flat_map spelling items ++ t) ++ more) (append-nil (spelling item))
     ∙ append_assoc (flat_map spelling items) (spelling item) more) in
     let P : ℕ → Type 0 = λ n. IsGoodLength n (size_of item) in
     record {
-      whole = cut.whole ∙ ap (λ (t : List ℕ). flat_map spelling items ++ t) front ∙ text;
-      placed = placed-push 0 items item cut.placed goes (omega (arith, here)) (subst P (omega arith) good);
+      whole = cut.whole ∙ ap (λ (t : List ℕ). flat_map spelling items ++ t) next.whole ∙ text;
+      placed = placed-push 0 items item cut.placed next.goes_on (omega (arith, next.here)) (subst P (omega arith) next.good);
     }
 
 -- ---- Bytes may come behind a cut
@@ -63,9 +63,7 @@ abbrev item_from : ℕ → ℕ → ℕ → List ℕ → Item
 item_from at kind form body = record { at = at; kind = kind; form = form; body = body }
 
 same_items : (a b : Item) → a.at ≡ b.at → a.kind ≡ b.kind → a.form ≡ b.form → a.body ≡ b.body → a ≡ b
-same_items a b at kind form body =
-    ap (λ (n : ℕ). item_from n a.kind a.form a.body) at ∙ ap (λ (n : ℕ). item_from b.at n a.form a.body) kind
-    ∙ ap (λ (n : ℕ). item_from b.at b.kind n a.body) form ∙ ap (λ (t : List ℕ). item_from b.at b.kind b.form t) body
+same_items a b at kind form body = λ i. item_from (at i) (kind i) (form i) (body i)
 
 -- one text begins with one record, of one length
 pub same_front : (a b : Item) (x y : List ℕ) → a.at ≡ b.at → spelling a ++ x ≡ spelling b ++ y → (a ≡ b) × (x ≡ y)
@@ -113,39 +111,62 @@ pub cuts-fronts : (bytes : List ℕ) (items others : List Item) (rest rest' : Li
     → (more : List Item) × ((others ≡ items ++ more) ⊎ (items ≡ others ++ more))
 cuts-fronts bytes items others rest rest' one other = fronts_at 0 items others rest rest' one.placed other.placed (sym one.whole ∙ other.whole)
 
--- where a record follows, the records before it don't end the library, and it has a good length
-placed-split : (at : ℕ) (items : List Item) (item : Item) (more : List Item) → ArePlaced at (items ++ item ∷ more)
-    → (EndsLibrary items → ⊥) × IsGoodLength (at + end_of items) (size_of item)
-placed-split at [] item more placed =
+-- ---- What is known where a cut goes on
+
+pub same_rest : (bytes : List ℕ) (items : List Item) (rest rest' : List ℕ) → Cuts bytes items rest → Cuts bytes items rest' → rest ≡ rest'
+same_rest bytes items rest rest' one other = append_cancel_left (flat_map spelling items) rest rest' (sym one.whole ∙ other.whole)
+
+record PlacedAt (at : ℕ) (before : List Item) (item : Item) : Type 0 where
+  placed : ArePlaced at before
+  goes_on : EndsLibrary before → ⊥
+  here : item.at ≡ at + end_of before
+  good : IsGoodLength (at + end_of before) (size_of item)
+
+placed-split : (at : ℕ) (before : List Item) (item : Item) (after : List Item) → ArePlaced at (before ++ item ∷ after) → PlacedAt at before item
+placed-split at [] item after placed =
+    let first = placed-first at item after placed in
     let P : ℕ → Type 0 = λ n. IsGoodLength n (size_of item) in
-    ((λ ends. ends), subst P (omega arith) (placed-first at item more placed).1)
-placed-split at (first ∷ []) item more placed =
+    record { placed = tt; goes_on = λ ends. ends; here = omega (arith, first.0); good = subst P (omega arith) first.1 }
+placed-split at (b ∷ []) item after placed =
+    let first = placed-first (at + size_of b) item after placed.3 in
+    let same : at + size_of b ≡ at + end_of (b ∷ []) = omega (arith, length-append b.body []) in
     let P : ℕ → Type 0 = λ n. IsGoodLength n (size_of item) in
-    (placed.2, subst P (omega (arith, length-append first.body [])) (placed-first (at + size_of first) item more placed.3).1)
-placed-split at (first ∷ next ∷ items) item more placed =
+    record { placed = (placed.0, placed.1); goes_on = placed.2; here = first.0 ∙ same; good = subst P same first.1 }
+placed-split at (b ∷ c ∷ before) item after placed =
+    let rest = placed-split (at + size_of b) (c ∷ before) item after placed.3 in
+    let same : at + size_of b + end_of (c ∷ before) ≡ at + end_of (b ∷ c ∷ before) = omega (arith, length-append b.body (flat_map spelling (c ∷ before))) in
     let P : ℕ → Type 0 = λ n. IsGoodLength n (size_of item) in
-    let rest = placed-split (at + size_of first) (next ∷ items) item more placed.3 in
-    (rest.0, subst P (omega (arith, length-append first.body (flat_map spelling (next ∷ items)))) rest.1)
+    record { placed = (placed.0, placed.1, placed.2, rest.placed); goes_on = rest.goes_on; here = rest.here ∙ same; good = subst P same rest.good }
+
+-- where another cut goes on with a record, it comes next
+pub comes_next : (bytes : List ℕ) (items : List Item) (rest : List ℕ) (item : Item) (after : List Item) (rest' : List ℕ) → Cuts bytes items rest
+    → Cuts bytes (items ++ item ∷ after) rest' → ComesNext items rest item (flat_map spelling after ++ rest')
+comes_next bytes items rest item after rest' cut longer =
+    let placed = placed-split 0 items item after longer.placed in
+    let P : ℕ → Type 0 = λ n. IsGoodLength n (size_of item) in
+    let split : Cuts bytes items (spelling item ++ (flat_map spelling after ++ rest')) = record {
+      whole = longer.whole ∙ ap (λ (t : List ℕ). t ++ rest') (flat_map-append spelling items (item ∷ after))
+          ∙ append_assoc (flat_map spelling items) (spelling item ++ flat_map spelling after) rest'
+          ∙ ap (λ (t : List ℕ). flat_map spelling items ++ t) (append_assoc (spelling item) (flat_map spelling after) rest');
+      placed = cut.placed;
+    } in
+    record {
+      goes_on = placed.goes_on;
+      whole = same_rest bytes items rest _ cut split;
+      here = omega (arith, placed.here);
+      good = subst P (omega arith) placed.good;
+    }
 
 -- where the cut can't go on, no cut goes on
-end_is_end : (bytes : List ℕ) (items : List Item) (rest : List ℕ) (item : Item) (more : List Item) (rest' : List ℕ) → Cuts bytes items rest → IsEnd items rest
-    → Cuts bytes (items ++ item ∷ more) rest' → ⊥
-end_is_end bytes items rest item more rest' one ended other =
-    let split = placed-split 0 items item more other.placed in
-    let P : ℕ → Type 0 = λ n. IsGoodLength n (size_of item) in
-    let good : IsGoodLength (end_of items) (size_of item) = subst P (omega arith) split.1 in
-    let follows : rest ≡ spelling item ++ (flat_map spelling more ++ rest') =
-    append_cancel_left (flat_map spelling items) rest (spelling item ++ (flat_map spelling more ++ rest'))
-    (sym one.whole ∙ other.whole ∙ ap (λ (t : List ℕ). t ++ rest') (flat_map-append spelling items (item ∷ more))
-    ∙ append_assoc (flat_map spelling items) (spelling item ++ flat_map spelling more) rest'
-    ∙ ap (λ (t : List ℕ). flat_map spelling items ++ t) (append_assoc (spelling item) (flat_map spelling more) rest')) in
+end_is_end : (items : List Item) (rest : List ℕ) (item : Item) (more : List ℕ) → IsEnd items rest → ComesNext items rest item more → ⊥
+end_is_end items rest item more ended next =
     elim ended as (λ _. ⊥) [
-      | inl ends ↦ split.0 ends
+      | inl ends ↦ next.goes_on ends
       | inr stuck ↦ elim stuck as (λ _. ⊥) [
-        | inl partial ↦ whole_not_partial (end_of items) rest item (flat_map spelling more ++ rest') follows partial
+        | inl partial ↦ whole_not_partial (end_of items) rest item more next.whole partial
         | inr refused ↦ elim refused as (λ _. ⊥) [
-          | inl long ↦ whole_not_too_long (end_of items) rest item (flat_map spelling more ++ rest') follows good long
-          | inr wrong ↦ whole_not_bad_length (end_of items) rest item (flat_map spelling more ++ rest') follows good wrong
+          | inl long ↦ whole_not_too_long (end_of items) rest item more next.whole next.good long
+          | inr wrong ↦ whole_not_bad_length (end_of items) rest item more next.whole next.good wrong
         ]
       ]
     ]
@@ -163,8 +184,9 @@ records_are_one bytes items others rest rest' one other =
     sames : (bytes : List ℕ) (items : List Item) (rest : List ℕ) (more others : List Item) (rest' : List ℕ) → AreRecords bytes items rest → AreRecords bytes others rest'
         → others ≡ items ++ more → (items ≡ others) × (rest ≡ rest')
     sames bytes items rest [] others rest' one other longer =
-        let same : items ≡ others = sym (longer ∙ append-nil items) in
-        (same, append_cancel_left (flat_map spelling items) rest rest' (sym one.cut.whole ∙ other.cut.whole ∙ ap (λ (is : List Item). flat_map spelling is ++ rest') (sym same)))
+        let same : others ≡ items = longer ∙ append-nil items in
+        let P : List Item → Type 0 = λ is. Cuts bytes is rest' in
+        (sym same, same_rest bytes items rest rest' one.cut (subst P same other.cut))
     sames bytes items rest (item ∷ more) others rest' one other longer =
         let P : List Item → Type 0 = λ is. Cuts bytes is rest' in
-        absurd (end_is_end bytes items rest item more rest' one.cut one.all (subst P longer other.cut))
+        absurd (end_is_end items rest item _ one.all (comes_next bytes items rest item more rest' one.cut (subst P longer other.cut)))

@@ -1,4 +1,3 @@
 pub mod Fronts
 pub mod Cutting
-pub mod Pieces
-pub mod OneAnswer
+mod Taking

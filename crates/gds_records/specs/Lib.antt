@@ -1,7 +1,6 @@
-pub mod Records
-pub mod Stream
-pub mod Front
 pub mod RecordTypes
-pub mod DataForms
-pub mod Pieces
-pub mod Alike
+pub mod Records
+pub mod LayoutKinds
+pub mod Stream
+pub mod Library
+pub mod Working

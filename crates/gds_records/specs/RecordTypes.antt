@@ -1,7 +1,9 @@
--- The byte of each record type (GDSII Stream Format, Release 6).
+-- The byte of each record type, and that of each data type (GDSII Stream Format, Release 6).
 use Rattle.std.specs.Prelude.{ℕ}
 use Rattle.gds_records.specs.declared.record_type.RecordType.{RecordType}
 use Rattle.gds_records.specs.declared.record_type.RecordType.TheVariants as types
+use Rattle.gds_records.specs.declared.data_form.DataForm.{DataForm}
+use Rattle.gds_records.specs.declared.data_form.DataForm.TheVariants as forms
 
 abbrev pub code_of : RecordType → ℕ
 code_of types.Header = 0x00
@@ -45,3 +47,11 @@ code_of types.BoxType = 0x2E
 code_of types.Plex = 0x2F
 code_of types.BeginExtension = 0x30
 code_of types.EndExtension = 0x31
+
+abbrev pub form_code_of : DataForm → ℕ
+form_code_of forms.NoData = 0
+form_code_of forms.BitArray = 1
+form_code_of forms.TwoByte = 2
+form_code_of forms.FourByte = 3
+form_code_of forms.EightByteReal = 5
+form_code_of forms.Text = 6

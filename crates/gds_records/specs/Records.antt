@@ -1,7 +1,11 @@
--- The records of a GDSII stream, by their lengths alone (GDSII Stream Format, Release 6: a record is two bytes of
--- length, high byte first, which count the whole record, a byte of record type, a byte of data type, and data).
+-- The records of a GDSII stream (GDSII Stream Format, Release 6): a record is two bytes of length, high byte first,
+-- which count the whole record, a byte of record type, a byte of data type, and data. The lengths alone cut the stream.
 use Rattle.std.specs.Prelude.{◌≡◌, ◌≢◌, ◌⊎◌, ℕ, ◌+◌, ◌*◌, ◌/◌, ◌%◌, ◌^◌, ◌<◌, ◌≤◌, List, [], ◌∷◌, ◌++◌, length}
 use Rattle.std.specs.List.{flat_map}
+use Rattle.gds_records.specs.declared.record_type.RecordType.{RecordType}
+use Rattle.gds_records.specs.declared.record_type.RecordType.TheVariants as types
+use Rattle.gds_records.specs.declared.data_form.DataForm.{DataForm}
+use Rattle.gds_records.specs.RecordTypes.{code_of, form_code_of}
 
 -- a record, and the offset of its first byte
 pub record Item : Type 0 where
@@ -18,9 +22,14 @@ size_of item = 4 + length item.body
 abbrev pub spelling : Item → List ℕ
 spelling item = size_of item / 256 ∷ size_of item % 256 ∷ item.kind ∷ item.form ∷ item.body
 
--- the record type of ENDLIB, after which nothing is read
+-- a record of this type, with data of this form
+pub record IsOf (type : RecordType) (form : DataForm) (item : Item) : Type 0 where
+  pub type_byte : item.kind ≡ code_of type
+  pub form_byte : item.form ≡ form_code_of form
+
+-- the byte of ENDLIB, after which nothing is read
 abbrev pub endlib : ℕ
-endlib = 4
+endlib = code_of types.EndLibrary
 
 -- a layout has at most so many bytes, counted to the end of ENDLIB
 abbrev pub longest_layout : ℕ
@@ -77,6 +86,13 @@ abbrev pub EndsLibrary : List Item → Type 0
 EndsLibrary [] = ⊥
 EndsLibrary (item ∷ []) = item.kind ≡ endlib
 EndsLibrary (item ∷ next ∷ items) = EndsLibrary (next ∷ items)
+
+-- behind the records, which don't end the library, comes this one, whole and with a good length, and then more
+pub record ComesNext (items : List Item) (rest : List ℕ) (item : Item) (more : List ℕ) : Type 0 where
+  pub goes_on : EndsLibrary items → ⊥
+  pub whole : rest ≡ spelling item ++ more
+  pub here : item.at ≡ end_of items
+  pub good : IsGoodLength (end_of items) (size_of item)
 
 -- no further record can be taken: the library has ended, or the rest is less than a record or is refused
 abbrev pub IsEnd : List Item → List ℕ → Type 0

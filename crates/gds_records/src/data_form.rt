@@ -1,8 +1,8 @@
 //! What a record's byte of data type stands for.
 
-ghost use Rattle.std.specs.Prelude.{◌≡◌, ◌≢◌, MatchOption};
+ghost use Rattle.std.specs.Prelude.{◌≡◌, ◌≢◌, ◌↔◌, MatchOption, Some, IsTrue};
 ghost use Rattle.gds_records.specs.declared.data_form.DataForm.{DataForm};
-ghost use Rattle.gds_records.specs.DataForms.{form_code_of};
+ghost use Rattle.gds_records.specs.RecordTypes.{form_code_of};
 
 use crate::Record;
 
@@ -22,16 +22,22 @@ pub enum DataForm {
 impl Record {
     /// What the data is made of; None for a byte that stands for no data type.
     pub fn data_form(&self) -> Option<DataForm>
-        ensures { MatchOption result ((form : DataForm) → form_code_of form ≢ self.now.form) (λ form. form_code_of form ≡ self.now.form) }
+        ensures { (form : DataForm) → (result ≡ Some form) ↔ (form_code_of form ≡ self.now.form) }
     {
-        match self.form {
-            0 => Some(DataForm::NoData),
-            1 => Some(DataForm::BitArray),
-            2 => Some(DataForm::TwoByte),
-            3 => Some(DataForm::FourByte),
-            5 => Some(DataForm::EightByteReal),
-            6 => Some(DataForm::Text),
-            _ => None,
-        }
+        form_of(self.form)
+    }
+}
+
+fn form_of(byte: u8) -> Option<DataForm>
+    ensures { MatchOption result ((form : DataForm) → form_code_of form ≢ byte) (λ form. form_code_of form ≡ byte) }
+{
+    match byte {
+        0 => Some(DataForm::NoData),
+        1 => Some(DataForm::BitArray),
+        2 => Some(DataForm::TwoByte),
+        3 => Some(DataForm::FourByte),
+        5 => Some(DataForm::EightByteReal),
+        6 => Some(DataForm::Text),
+        _ => None,
     }
 }

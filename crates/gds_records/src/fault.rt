@@ -1,6 +1,7 @@
 //! Why a layout is refused.
 
 ghost use Rattle.std.specs.Prelude.{◌≡◌};
+ghost use Rattle.gds_records.specs.LayoutKinds.{layout_number, layout_word};
 ghost use Rattle.gds_records.specs.declared.fault.LayoutFault.TheVariants.{Memory};
 
 use std::alloc::{AllocError, AllocFailed};
@@ -17,6 +18,32 @@ pub enum LayoutKind {
     BadLength,
     /// A record that the reader doesn't serve yet.
     NotBuilt,
+}
+
+impl LayoutKind {
+    /// The reason's number.
+    pub fn number(self) -> u32
+        ensures { result ≡ layout_number self }
+    {
+        match self {
+            LayoutKind::LayoutTooLong => 1,
+            LayoutKind::Truncated => 2,
+            LayoutKind::BadLength => 3,
+            LayoutKind::NotBuilt => 90,
+        }
+    }
+
+    /// The reason's word.
+    pub fn word(self) -> &'static str
+        ensures { result.now ≡ layout_word self }
+    {
+        match self {
+            LayoutKind::LayoutTooLong => "LayoutTooLong",
+            LayoutKind::Truncated => "Truncated",
+            LayoutKind::BadLength => "BadLength",
+            LayoutKind::NotBuilt => "NotBuilt",
+        }
+    }
 }
 
 /// The first fact for which a layout is refused, and the offset at which it stands.

@@ -3,9 +3,9 @@
 ghost use Rattle.std.specs.Prelude.{◌≡◌, ℕ, ◌+◌, ◌≤◌, [], ◌++◌, length, false, drop, OnOk, OnErr};
 ghost use Rattle.gds_records.specs.Records.{longest_layout};
 ghost use Rattle.gds_records.specs.Stream.{Stream, Takes, start_of_stream, truncation};
-ghost use Rattle.gds_records.specs.Front.{StartsWith};
+ghost use Rattle.gds_records.specs.Working.Taking.{StartsWith};
 
-use crate::{LayoutFault, LayoutKind, LayoutRefusal, Record};
+use crate::{LayoutFault, LayoutKind, LayoutRefusal, Record, RecordType};
 use byteorder::{BigEndian, ByteOrder};
 use std::alloc::{AllocError, Global};
 use std::marker::Model;
@@ -14,10 +14,7 @@ use std::marker::Model;
 const HEADER: usize = 4;
 
 /// The most bytes of a layout, counted to the end of ENDLIB.
-const LONGEST_LAYOUT: u64 = 1 << 30;
-
-/// The record type after which nothing is read.
-const END_LIBRARY: u8 = 0x04;
+pub const LONGEST_LAYOUT: u64 = 1 << 30;
 
 /// Cuts the records of a stream that is fed piece by piece.
 #[derive(Drop)]
@@ -91,7 +88,7 @@ impl Framer {
         let size = HEADER + record.body.len();
         self.start += size;
         self.at += size as u64;
-        self.ended = record.kind == END_LIBRARY;
+        self.ended = record.has_type(RecordType::EndLibrary);
         Ok(Some(record))
     }
 

@@ -19,7 +19,7 @@ mod stream;
 
 pub use data_form::DataForm;
 pub use fault::{LayoutFault, LayoutKind, LayoutRefusal};
-pub use framer::Framer;
+pub use framer::{Framer, LONGEST_LAYOUT};
 pub use record::Record;
 pub use record_type::RecordType;
 pub use stream::records;

@@ -4,7 +4,8 @@ ghost use Rattle.std.specs.Prelude.{◌≡◌, ℕ, List, map, IfOk, IfErr};
 ghost use Rattle.std.specs.List.{flat_map};
 ghost use Rattle.gds_records.specs.Records.{Item, AreRecords};
 ghost use Rattle.gds_records.specs.Stream.{item_of};
-ghost use Rattle.gds_records.specs.Pieces.{IsLibrary, IsFaultOf, HasTaken, TakesWhole};
+ghost use Rattle.gds_records.specs.Library.{IsLibrary, IsFaultOf};
+ghost use Rattle.gds_records.specs.Working.Taking.{HasTaken, TakesWhole};
 
 use crate::{Framer, LayoutFault, Record};
 use std::alloc::Global;

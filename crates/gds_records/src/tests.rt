@@ -158,3 +158,31 @@ fn unknown_bytes(rt: HostRuntime) {
     };
     assert_eq!(rt; summary_of(&record), Shown(0, None, None, 0));
 }
+
+#[test]
+fn a_boundary(rt: HostRuntime) {
+    let record = Record {
+        at: 0,
+        kind: 0x08,
+        form: 0,
+        body: Vec::new(rt.alloc()),
+    };
+    assert!(rt; record.has_type(RecordType::Boundary));
+    assert!(rt; !record.has_type(RecordType::Path));
+    assert!(rt; record.is_of(RecordType::Boundary, DataForm::NoData));
+    assert!(rt; !record.is_of(RecordType::Boundary, DataForm::Text));
+}
+
+#[test]
+fn numbers_and_words(rt: HostRuntime) {
+    let table = [
+        (LayoutKind::LayoutTooLong, 1, "LayoutTooLong"),
+        (LayoutKind::Truncated, 2, "Truncated"),
+        (LayoutKind::BadLength, 3, "BadLength"),
+        (LayoutKind::NotBuilt, 90, "NotBuilt"),
+    ];
+    for (kind, number, word) in table {
+        assert_eq!(rt; kind.number(), number);
+        assert_eq!(rt; kind.word(), word);
+    }
+}

@@ -4,25 +4,23 @@ use Rattle.std.proofs.lemmas.Int.{ints, by_lt_z}
 use Rattle.std.proofs.lemmas.List.{take-append-drop}
 use Rattle.std.proofs.Math.Seq.{take-suc}
 use mathlib.Core.Bool.{true≢false}
+use Rattle.list_facts.proofs.Members.{all_append}
+use Rattle.interval_row.specs.Working.Operations.{joined}
 use Rattle.interval_row.specs.declared.span.Span.{Span}
 use Rattle.interval_row.specs.declared.operation.Operation.{Operation}
-use Rattle.interval_row.specs.Rows.{has, joined, BeginsAbove, IsRow, StandsBehind}
-use Rattle.interval_row.specs.Walk.{EndBefore, PassesAlone, next_end}
+use Rattle.interval_row.specs.Rows.{has, BeginsAbove, IsRow, StandsBehind}
+use Rattle.interval_row.specs.Working.Walk.{EndBefore, PassesAlone, Rest, Walk, next_end, outside}
 use Rattle.interval_row.proofs.Places.{has_inside, has_past, has_before, has_append, none_below, none_above, begins_down, ends_up, ends_push, behind_ends, row_push, EndsBy}
 use Rattle.interval_row.proofs.Splits.{row_left}
 use Rattle.interval_row.proofs.Ends.{ends_left}
 use Rattle.interval_row.proofs.Walks.{IsWalk, keeps_none, none_begun}
-use Rattle.interval_row.proofs.Skipping.{fewer_dropped}
-
-behind_join : (a b : List Span) (p : ℤ) → StandsBehind a p → StandsBehind b p → StandsBehind (a ++ b) p
-behind_join [] b p h k = k
-behind_join (s ∷ a) b p h k = (h.0, behind_join a b p h.1 k)
+use Rattle.interval_row.proofs.Skipping.{dropped_no_more}
 
 -- one more span that ends below a place
 pub behind_more : (ss : List Span) (n : ℕ) (d : Span) (p : ℤ) → n < length ss → StandsBehind (take n ss) p → (get_or ss n d).hi <ℤ p → StandsBehind (take (n + 1) ss) p
 behind_more ss n d p l h k =
     let f : take (n + 1) ss ≡ take n ss ++ (get_or ss n d ∷ []) = rw add-one (take-suc ss n d l) in
-    subst (λ v. StandsBehind v p) (sym f) (behind_join (take n ss) (get_or ss n d ∷ []) p h (k, tt))
+    subst (λ v. StandsBehind v p) (sym f) (all_append (λ s. s.hi <ℤ p) (take n ss) (get_or ss n d ∷ []) h (k, tt))
 
 -- a row that is cut short
 pub row_front : (a b : List Span) (n : ℕ) → IsRow (a ++ b) → IsRow (a ++ take n b)
@@ -73,7 +71,7 @@ alone_below op s ss ts spans x r q u n h =
     ∙ (or_all (has spans x) b (has (s ∷ []) x) n (has_inside s [] x l h)
     ∙ sym (ap (λ t. joined op t (has ts x)) (has_inside s ss x l h) ∙ ap (λ t. joined op true t) f)))
 
-alone_one : (op : Operation) (a b : List Span) (s : Span) (ss ts spans : List Span) → BeginsAbove s.hi ts → IsWalk op a b false (s ∷ ss) false ts spans None → IsWalk op a b false ss false ts (spans ++ kept op (s ∷ [])) None
+alone_one : (op : Operation) (a b : List Span) (s : Span) (ss ts spans : List Span) → BeginsAbove s.hi ts → IsWalk op a b (outside (s ∷ ss) ts spans None) → IsWalk op a b (outside ss ts (spans ++ kept op (s ∷ [])) None)
 alone_one op a b s ss ts spans u w =
     let r : IsRow (s ∷ ss) = w.first.1 in
     let l : w.place <ℤ s.lo = w.first.0 in
@@ -94,7 +92,7 @@ alone_one op a b s ss ts spans u w =
           ∙ w.below x m))
           (λ m.
           alone_below op s ss ts spans x r w.second.1 u (none_above spans x (ends_up spans w.place x m e)) h
-          ∙ sym (ap (λ t. joined op t (has b x)) (w.ahead_first x m) ∙ ap (λ t. joined op (has (s ∷ ss) x) t) (w.ahead_second x m)));
+          ∙ sym (λ i. joined op (w.ahead_first x m i) (w.ahead_second x m i)));
       ahead_first = λ x h. w.ahead_first x (omega (arith, ints)) ∙ has_past s ss x h;
       ahead_second = λ x h. w.ahead_second x (omega (arith, ints));
     }
@@ -117,54 +115,47 @@ nothing_kept : (b : Bool) (spans : List Span) → spans ++ cond b [] [] ≡ span
 nothing_kept true spans = append-nil spans
 nothing_kept false spans = append-nil spans
 
-alone_all : (op : Operation) (a b : List Span) (count : ℕ) (ss ts spans : List Span) → count ≤ length ss → EndBefore (next_end false ts) (take count ss) → IsWalk op a b false ss false ts spans None → IsWalk op a b false (drop count ss) false ts (spans ++ kept op (take count ss)) None
-alone_all op a b zero ss ts spans h e w = subst (λ v. IsWalk op a b false ss false ts v None) (sym (nothing_kept (joined op true false) spans)) w
-alone_all op a b (suc count) [] ts spans h e w = absurd (omega arith)
-alone_all op a b (suc count) (s ∷ ss) ts spans h e w =
-    subst (λ v. IsWalk op a b false (drop count ss) false ts v None) (kept_more (joined op true false) s (take count ss) spans)
-    (alone_all op a b count ss ts (spans ++ kept op (s ∷ [])) (omega arith) (ends_before_rest (next_end false ts) s (take count ss) e)
-    (alone_one op a b s ss ts spans (begins_before s (take count ss) ts e) w))
+alone_all : (op : Operation) (a b : List Span) (count : ℕ) (ss ts row : List Span) → count ≤ length ss → EndBefore (next_end false ts) (take count ss) → IsWalk op a b (outside ss ts row None) → IsWalk op a b (outside (drop count ss) ts (row ++ kept op (take count ss)) None)
+alone_all op a b zero ss ts row h e w = subst (λ v. IsWalk op a b (outside ss ts v None)) (sym (nothing_kept (joined op true false) row)) w
+alone_all op a b (suc count) [] ts row h e w = absurd (omega arith)
+alone_all op a b (suc count) (s ∷ ss) ts row h e w =
+    subst (λ v. IsWalk op a b (outside (drop count ss) ts v None)) (kept_more (joined op true false) s (take count ss) row)
+    (alone_all op a b count ss ts (row ++ kept op (s ∷ [])) (omega arith) (ends_before_rest (next_end false ts) s (take count ss) e)
+    (alone_one op a b s ss ts row (begins_before s (take count ss) ts e) w))
 
 -- ---- the step of a walk
 
-no_pen : (op : Operation) (a b : List Span) (ss ts spans : List Span) (begun : Option ℤ) → IsWalk op a b false ss false ts spans begun → begun ≡ None
-no_pen op a b ss ts spans begun w = none_begun begun (w.on ∙ keeps_none op)
+-- outside of all spans nothing is begun
+outside_all : (op : Operation) (a b : List Span) (walk : Walk) → walk.first.inside ≡ false → walk.second.inside ≡ false → IsWalk op a b walk → (walk.begun ≡ None) × IsWalk op a b (outside walk.first.spans walk.second.spans walk.row None)
+outside_all op a b walk e f w =
+    let n = none_begun walk.begun (w.on ∙ ((λ i. joined op (e i) (f i)) ∙ keeps_none op)) in (
+      n,
+      subst (IsWalk op a b) (λ i. record { first = record { inside = e i; spans = walk.first.spans }; second = record { inside = f i; spans = walk.second.spans }; row = walk.row; begun = n i }) w,
+    )
 
-same_walk : (op : Operation) (a b : List Span) (i j i' : Bool) (ss ts ss' spans spans' : List Span) (begun begun' : Option ℤ) → i' ≡ i → ss' ≡ ss → spans' ≡ spans → begun' ≡ begun → IsWalk op a b i ss j ts spans begun → IsWalk op a b i' ss' j ts spans' begun'
-same_walk op a b i j i' ss ts ss' spans spans' begun begun' e f g h w =
-    subst (λ t. IsWalk op a b i' ss' j ts spans' t) (sym h)
-    (subst (λ t. IsWalk op a b i' ss' j ts t begun) (sym g)
-    (subst (λ t. IsWalk op a b i' t j ts spans begun) (sym f)
-    (subst (λ t. IsWalk op a b t ss j ts spans begun) (sym e) w)))
+-- the walk with another first cursor and pen, where the second stands still
+abbrev pub moved : Walk → Rest → List Span → Option ℤ → Walk
+moved walk first row begun = record { first = first; second = walk.second; row = row; begun = begun }
 
-pub passed_alone : (op : Operation) (a b : List Span) (i j i' : Bool) (ss ts ss' spans spans' : List Span) (begun begun' : Option ℤ) → PassesAlone op i ss j ts spans begun i' ss' spans' begun' → IsWalk op a b i ss j ts spans begun → IsWalk op a b i' ss' j ts spans' begun'
-passed_alone op a b i j i' ss ts ss' spans spans' begun begun' p w =
+pub passed_alone : (op : Operation) (a b : List Span) (walk : Walk) (first' : Rest) (row' : List Span) (begun' : Option ℤ) → PassesAlone op walk (moved walk first' row' begun') → IsWalk op a b walk → IsWalk op a b (moved walk first' row' begun')
+passed_alone op a b walk first' row' begun' p w =
     elim p.none [
       | inl e ↦
-          same_walk op a b i j i' ss ts ss' spans spans' begun begun' p.inside (p.left ∙ ap (λ n. drop n ss) e)
-          (p.drawn ∙ (ap (λ n. spans ++ kept op (take n ss)) e ∙ nothing_kept (joined op true false) spans)) p.same w
+          let l = p.left ∙ ap (λ n. drop n walk.first.spans) e in
+          let d = p.drawn ∙ (ap (λ n. walk.row ++ kept op (take n walk.first.spans)) e ∙ nothing_kept (joined op true false) walk.row) in
+          subst (IsWalk op a b) (λ i. moved walk (record { inside = sym p.inside i; spans = sym l i }) (sym d i) (sym p.same i)) w
       | inr k ↦
-          let w1 = subst (λ t. IsWalk op a b t ss j ts spans begun) k.0 w in
-          let w2 = subst (λ t. IsWalk op a b false ss t ts spans begun) k.1 w1 in
-          let n = no_pen op a b ss ts spans begun w2 in
-          let w3 = subst (λ t. IsWalk op a b false ss false ts spans t) n w2 in
-          let e = subst (λ t. EndBefore (next_end t ts) (take p.count ss)) k.1 k.2 in
-          let w4 = alone_all op a b p.count ss ts spans p.within e w3 in
-          let w5 = same_walk op a b false false i' (drop p.count ss) ts ss' (spans ++ kept op (take p.count ss)) spans' None begun' (p.inside ∙ k.0) p.left p.drawn (p.same ∙ n) w4 in
-          subst (λ t. IsWalk op a b i' ss' t ts spans' begun') (sym k.1) w5
+          let o = outside_all op a b walk k.0 k.1 w in
+          let e = subst (λ t. EndBefore (next_end t walk.second.spans) (take p.count walk.first.spans)) k.1 k.2 in
+          let f = p.inside ∙ k.0 in
+          let g = p.same ∙ o.0 in
+          subst (IsWalk op a b) (λ i. record { first = record { inside = sym f i; spans = sym p.left i }; second = record { inside = sym k.1 i; spans = walk.second.spans }; row = sym p.drawn i; begun = sym g i })
+          (alone_all op a b p.count walk.first.spans walk.second.spans walk.row p.within e o.1)
     ]
 
-pub passed_no_more : (op : Operation) (i j i' : Bool) (ss ts ss' spans spans' : List Span) (begun begun' : Option ℤ) → PassesAlone op i ss j ts spans begun i' ss' spans' begun' → ends_left i' ss' ≤ ends_left i ss
-passed_no_more op i j i' ss ts ss' spans spans' begun begun' p =
-    elim p.none [
-      | inl e ↦
-          let h : ends_left i' ss' ≡ ends_left i ss = λ k. ends_left (p.inside k) ((p.left ∙ ap (λ n. drop n ss) e) k) in
-          omega (arith, h)
-      | inr k ↦
-          let h : ends_left i' ss' ≡ ends_left false (drop p.count ss) = λ n. ends_left ((p.inside ∙ k.0) n) (p.left n) in
-          let g : ends_left i ss ≡ ends_left false ss = λ n. ends_left (k.0 n) ss in
-          omega (arith, h, g, fewer_dropped p.count ss)
-    ]
+pub passed_no_more : (op : Operation) (old new : Walk) → PassesAlone op old new → ends_left new.first.inside new.first.spans ≤ ends_left old.first.inside old.first.spans
+passed_no_more op old new p =
+    dropped_no_more p.count old.first new.first (elim p.none [ inl e ↦ inl e | inr k ↦ inr k.0 ]) p.inside p.left
 
 row_join : (spans ss : List Span) (p : ℤ) → IsRow spans → EndsBy spans p → BeginsAbove p ss → IsRow ss → IsRow (spans ++ ss)
 row_join [] ss p r e u q = q
@@ -172,9 +163,7 @@ row_join (s ∷ []) ss p r e u q = (r.0, begins_down s.hi p ss e.0 u, q)
 row_join (s ∷ t ∷ spans) ss p r e u q = (r.0, r.1, row_join (t ∷ spans) ss p r.2 e.1 u q)
 
 -- outside of all spans, what is left of the first row stands behind what is drawn
-pub row_ahead : (op : Operation) (a b : List Span) (i j : Bool) (ss ts spans : List Span) (begun : Option ℤ) → IsWalk op a b i ss j ts spans begun → i ≡ false → j ≡ false → IsRow (spans ++ ss)
-row_ahead op a b i j ss ts spans begun w e f =
-    let w1 = subst (λ t. IsWalk op a b t ss j ts spans begun) e w in
-    let w2 = subst (λ t. IsWalk op a b false ss t ts spans begun) f w1 in
-    let w3 = subst (λ t. IsWalk op a b false ss false ts spans t) (no_pen op a b ss ts spans begun w2) w2 in
-    row_join spans ss w3.place w3.row w3.pen w3.first.0 w3.first.1
+pub row_ahead : (op : Operation) (a b : List Span) (walk : Walk) → IsWalk op a b walk → walk.first.inside ≡ false → walk.second.inside ≡ false → IsRow (walk.row ++ walk.first.spans)
+row_ahead op a b walk w e f =
+    let o = (outside_all op a b walk e f w).1 in
+    row_join walk.row walk.first.spans o.place o.row o.pen o.first.0 o.first.1

@@ -2,10 +2,12 @@
 use Rattle.std.proofs.Common.{◌≡◌, Bool, true, false, ◌||◌, ◌&&◌, ℤ, ◌<ℤ◌, ◌≤ℤ◌, int_le, int_lt, Option, None, Some, List, [], ◌∷◌, refl, ◌∙◌, ap, arith}
 use Rattle.std.proofs.lemmas.Int.{ints}
 use Rattle.std.specs.Option.{is_some}
+use Rattle.std.proofs.lemmas.Bool.{or_right}
+use Rattle.list_facts.proofs.Tests.{le_false, le_true, lt_true, or_right_known}
 use Rattle.interval_row.specs.declared.span.Span.{Span}
 use Rattle.interval_row.specs.Rows.{has, IsRow, StandsBehind}
-use Rattle.interval_row.specs.Walk.{CanTurn, spans_turned, begun_turned}
-use Rattle.interval_row.proofs.Places.{lt_true, le_true, le_false, or_true_right, or_false_right, EndsBy, none_above, ends_up, ends_behind, behind_ends, ends_push, row_push, has_append}
+use Rattle.interval_row.specs.Working.Walk.{CanTurn, spans_turned, begun_turned}
+use Rattle.interval_row.proofs.Places.{EndsBy, none_above, ends_up, ends_behind, behind_ends, ends_push, row_push, has_append}
 
 -- the places that are drawn, the open span without end
 abbrev pub drawn : List Span → Option ℤ → ℤ → Bool
@@ -21,7 +23,7 @@ pub drawn_on : (p : ℤ) (o : Option ℤ) (spans : List Span) (x : ℤ) → IsDr
 drawn_on p None spans x d h = none_above spans x (ends_up spans p x h d)
 drawn_on p (Some lo) spans x d h =
     let k : lo ≤ℤ p = d.0 in
-    or_true_right (has spans x) _ (le_true lo x (omega (arith, ints)))
+    or_right (has spans x) _ (le_true lo x (omega (arith, ints)))
 
 pub can_turn : (p at : ℤ) (o : Option ℤ) (spans : List Span) → IsDrawn p o spans → p <ℤ at → CanTurn at o spans
 can_turn p at None spans d h = tt
@@ -51,11 +53,11 @@ turned_on true at (Some lo) = refl
 turned_on false at (Some lo) = refl
 
 closed : (p q : Bool) → q ≡ true → ((p && q) || false) ≡ p
-closed true q e = or_false_right q false refl ∙ e
+closed true q e = or_right_known q false refl ∙ e
 closed false q e = refl
 
 pub turned_below : (on : Bool) (at : ℤ) (o : Option ℤ) (spans : List Span) (x : ℤ) → x <ℤ at → drawn (spans_turned on at o spans) (begun_turned on at o) x ≡ drawn spans o x
-turned_below true at None spans x h = or_false_right (has spans x) _ (le_false at x h)
+turned_below true at None spans x h = or_right_known (has spans x) _ (le_false at x h)
 turned_below false at None spans x h = refl
 turned_below true at (Some lo) spans x h = refl
 turned_below false at (Some lo) spans x h =

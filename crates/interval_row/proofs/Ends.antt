@@ -4,10 +4,13 @@ use Rattle.std.proofs.lemmas.Int.{ints, by_lt_z}
 use Rattle.std.specs.Ordering.{int_eq}
 use Rattle.std.specs.Cmp.{signed_Decides}
 use mathlib.Core.Bool.{true≢false}
+use Rattle.std.proofs.lemmas.Bool.{or_left}
+use Rattle.std.proofs.lemmas.Option.{same_Some}
+use Rattle.list_facts.proofs.Tests.{le_from_true, le_true, lt_false, lt_true, or_known}
 use Rattle.interval_row.specs.declared.span.Span.{Span}
 use Rattle.interval_row.specs.Rows.{has, BeginsAbove, IsRow}
-use Rattle.interval_row.specs.Walk.{next_end, spans_past, inside_past, earlier}
-use Rattle.interval_row.proofs.Places.{lt_true, le_true, lt_false, le_from_true, or_true, or_false, none_below, begins_down}
+use Rattle.interval_row.specs.Working.Walk.{next_end, spans_past, inside_past, earlier}
+use Rattle.interval_row.proofs.Places.{none_below, begins_down}
 
 -- the places that are ahead of a cursor
 abbrev pub ahead : Bool → List Span → ℤ → Bool
@@ -40,7 +43,7 @@ pub ahead_still : (p : ℤ) (i : Bool) (ss : List Span) (x : ℤ) → IsCursor p
 ahead_still p false [] x c b = refl
 ahead_still p false (s ∷ ss) x c b = none_below (s ∷ ss) x c.1 b
 ahead_still p true [] x c b = absurd c
-ahead_still p true (s ∷ ss) x c b = or_true _ _ (lt_true x s.hi b)
+ahead_still p true (s ∷ ss) x c b = or_left _ _ (lt_true x s.hi b)
 
 -- past place `at` the cursor stands at (j, ts), and the same places are ahead from there on
 pub record Passes (at : ℤ) (i : Bool) (ss : List Span) (j : Bool) (ts : List Span) : Type 0 where
@@ -67,7 +70,7 @@ passes_finish at s ss true e a r u =
     let q : s.hi ≡ at = (signed_Decides s.hi at).0 e in
     record {
       stands = (begins_down at s.hi ss (omega (arith, ints)) a, r);
-      same = λ x k. or_false _ _ (lt_false x s.hi (omega (arith, ints)));
+      same = λ x k. or_known _ _ (lt_false x s.hi (omega (arith, ints)));
     }
 passes_finish at s ss false e a r u =
     let q = not_equal s.hi at e in
@@ -109,13 +112,10 @@ less_finish : (s : Span) (ss : List Span) (b : Bool) → b ≡ true → ends_lef
 less_finish s ss true e = omega (arith, all_left ss)
 less_finish s ss false e = absurd (true≢false (sym e))
 
-some_same : (x y : ℤ) → Some x ≡ Some y → x ≡ y
-some_same x y e = cc
-
 pub fewer_left : (at : ℤ) (i : Bool) (ss : List Span) → next_end i ss ≡ Some at → ends_left (inside_past at i ss) (spans_past at i ss) < ends_left i ss
 fewer_left at i [] e = cc
-fewer_left at false (s ∷ ss) e = less_begin (length ss + length ss) (int_eq s.lo at) ((signed_Decides s.lo at).1 (some_same s.lo at e))
-fewer_left at true (s ∷ ss) e = less_finish s ss (int_eq s.hi at) ((signed_Decides s.hi at).1 (some_same s.hi at e))
+fewer_left at false (s ∷ ss) e = less_begin (length ss + length ss) (int_eq s.lo at) ((signed_Decides s.lo at).1 (same_Some s.lo at e))
+fewer_left at true (s ∷ ss) e = less_finish s ss (int_eq s.hi at) ((signed_Decides s.hi at).1 (same_Some s.hi at e))
 
 pub none_left : (p : ℤ) (i : Bool) (ss : List Span) → IsCursor p i ss → next_end i ss ≡ None → (i ≡ false) × (ss ≡ [])
 none_left p false [] c e = (refl, refl)
@@ -125,18 +125,18 @@ none_left p true (s ∷ ss) c e = cc
 
 lower : (x y e : ℤ) (b : Bool) → int_le x y ≡ b → Some (cond b x y) ≡ Some e → (e ≤ℤ x) × (e ≤ℤ y)
 lower x y e true t q =
-    let h : x ≡ e = some_same x e q in
+    let h : x ≡ e = same_Some x e q in
     let k : x ≤ℤ y = le_from_true x y t in
     (omega (arith, ints), omega (arith, ints))
 lower x y e false t q =
-    let h : y ≡ e = some_same y e q in
+    let h : y ≡ e = same_Some y e q in
     by_lt_z y x (λ l. (omega (arith, ints), omega (arith, ints)))
     (λ l. absurd (true≢false (sym (le_true x y l) ∙ t)))
 
 pub earlier_up : (m n : Option ℤ) (e : ℤ) → earlier m n ≡ Some e → UpTo e m × UpTo e n
 earlier_up None None e q = (tt, tt)
-earlier_up None (Some y) e q = let h : y ≡ e = some_same y e q in (tt, omega (arith, ints))
-earlier_up (Some x) None e q = let h : x ≡ e = some_same x e q in (omega (arith, ints), tt)
+earlier_up None (Some y) e q = let h : y ≡ e = same_Some y e q in (tt, omega (arith, ints))
+earlier_up (Some x) None e q = let h : x ≡ e = same_Some x e q in (omega (arith, ints), tt)
 earlier_up (Some x) (Some y) e q = lower x y e (int_le x y) refl q
 
 one_of : (x y e : ℤ) (b : Bool) → Some (cond b x y) ≡ Some e → (Some x ≡ Some e) ⊎ (Some y ≡ Some e)

@@ -1,27 +1,25 @@
 -- Two rows that have the same places are the same list of spans.
-use Rattle.std.proofs.Common.{◌≡◌, Bool, true, false, ℤ, ◌<ℤ◌, ◌≤ℤ◌, List, [], ◌∷◌, sym, ◌∙◌, arith}
+use Rattle.std.proofs.Common.{◌≡◌, ℤ, ◌<ℤ◌, ◌≤ℤ◌, List, [], ◌∷◌, sym, ◌∙◌, arith}
 use Rattle.std.proofs.lemmas.Int.{ints, by_lt_z}
 use mathlib.Core.Bool.{true≢false}
+use Rattle.list_facts.proofs.Tests.{clash_with}
 use Rattle.interval_row.specs.declared.span.Span.{Span}
 use Rattle.interval_row.specs.Rows.{has, IsRow}
 use Rattle.interval_row.proofs.Places.{has_inside, has_past, none_below, begins_down}
-
-clash : {A : Type 0} (p q : Bool) → p ≡ q → p ≡ true → q ≡ false → A
-clash p q e f g = absurd (true≢false (sym f ∙ (e ∙ g)))
 
 -- the first span of the one row begins no lower than that of the other, and ends no lower if they begin together
 begins_low : (s t : Span) (ss ts : List Span) → IsRow (s ∷ ss) → IsRow (t ∷ ts) → ((x : ℤ) → has (s ∷ ss) x ≡ has (t ∷ ts) x) → t.lo ≤ℤ s.lo
 begins_low s t ss ts r q h =
     let k : s.lo <ℤ s.hi = r.0 in
     by_lt_z s.lo t.lo
-    (λ l. clash _ _ (h s.lo) (has_inside s ss s.lo (omega (arith, ints)) k) (none_below (t ∷ ts) s.lo q l))
+    (λ l. clash_with _ _ (h s.lo) (has_inside s ss s.lo (omega (arith, ints)) k) (none_below (t ∷ ts) s.lo q l))
     (λ l. l)
 
 ends_low : (s t : Span) (ss ts : List Span) → IsRow (s ∷ ss) → s.lo ≡ t.lo → ((x : ℤ) → has (s ∷ ss) x ≡ has (t ∷ ts) x) → t.hi ≤ℤ s.hi
 ends_low s t ss ts r e h =
     let k : s.lo <ℤ s.hi = r.0 in
     by_lt_z s.hi t.hi
-    (λ l. clash _ _ (sym (h s.hi)) (has_inside t ts s.hi (omega (arith, ints)) l) (has_past s ss s.hi (omega (arith, ints)) ∙ none_below ss s.hi r.2 r.1))
+    (λ l. clash_with _ _ (sym (h s.hi)) (has_inside t ts s.hi (omega (arith, ints)) l) (has_past s ss s.hi (omega (arith, ints)) ∙ none_below ss s.hi r.2 r.1))
     (λ l. l)
 
 same_span : (s t : Span) → s.lo ≡ t.lo → s.hi ≡ t.hi → s ≡ t

@@ -3,9 +3,11 @@ use Rattle.std.proofs.Common.{◌≡◌, true, false, ℕ, suc, ◌+◌, ◌<◌
 use Rattle.std.proofs.lemmas.Int.{ints}
 use Rattle.std.proofs.lemmas.List.{take-append-drop}
 use Rattle.std.proofs.Math.Seq.{drop-cons, take-suc}
+use Rattle.std.proofs.lemmas.Bool.{or_right}
+use Rattle.list_facts.proofs.Tests.{or_known, or_right_known}
 use Rattle.interval_row.specs.declared.span.Span.{Span}
 use Rattle.interval_row.specs.Rows.{has, BeginsAbove, IsRow, StandsBehind}
-use Rattle.interval_row.proofs.Places.{has_inside, has_past, has_append, none_below, none_above, ends_behind, or_true_right, or_false, or_false_right, EndsBy, ends_push}
+use Rattle.interval_row.proofs.Places.{has_inside, has_past, has_append, none_below, none_above, ends_behind, EndsBy, ends_push}
 
 begins_left : (p : ℤ) (l m : List Span) → BeginsAbove p (l ++ m) → BeginsAbove p l
 begins_left p [] m b = tt
@@ -30,15 +32,15 @@ behind_cut (s ∷ u ∷ l) t m r =
     (omega (arith, ints), h)
 
 pub has_left : (l : List Span) (t : Span) (m : List Span) (x : ℤ) → IsRow (l ++ t ∷ m) → x <ℤ t.lo → has (l ++ t ∷ m) x ≡ has l x
-has_left l t m x r h = has_append l (t ∷ m) x ∙ or_false_right (has l x) _ (none_below (t ∷ m) x (row_right l (t ∷ m) r) h)
+has_left l t m x r h = has_append l (t ∷ m) x ∙ or_right_known (has l x) _ (none_below (t ∷ m) x (row_right l (t ∷ m) r) h)
 
 pub has_middle : (l : List Span) (t : Span) (m : List Span) (x : ℤ) → t.lo ≤ℤ x → x <ℤ t.hi → has (l ++ t ∷ m) x ≡ true
-has_middle l t m x p q = has_append l (t ∷ m) x ∙ or_true_right (has l x) _ (has_inside t m x p q)
+has_middle l t m x p q = has_append l (t ∷ m) x ∙ or_right (has l x) _ (has_inside t m x p q)
 
 pub has_right : (l : List Span) (t : Span) (m : List Span) (x : ℤ) → IsRow (l ++ t ∷ m) → t.hi ≤ℤ x → has (l ++ t ∷ m) x ≡ has m x
 has_right l t m x r h =
     let k : t.lo <ℤ t.hi = (row_right l (t ∷ m) r).0 in
-    has_append l (t ∷ m) x ∙ (or_false _ _ (none_above l x (ends_behind l t.lo x (omega (arith, ints)) (behind_cut l t m r))) ∙ has_past t m x h)
+    has_append l (t ∷ m) x ∙ (or_known _ _ (none_above l x (ends_behind l t.lo x (omega (arith, ints)) (behind_cut l t m r))) ∙ has_past t m x h)
 
 cut_at : (l : List Span) (m : ℕ) (d : Span) → m < length l → l ≡ take m l ++ (get_or l m d ∷ drop (suc m) l)
 cut_at l m d h = sym (take-append-drop m l) ∙ ap (λ t. take m l ++ t) (drop-cons l m d h)
@@ -62,5 +64,5 @@ ends_at l m d x h r p =
 pub not_found_at : (l : List Span) (m : ℕ) (x : ℤ) → IsRow l → EndsBy (take m l) x → BeginsAbove x (drop m l) → false ≡ has l x
 not_found_at l m x r e b =
     let c = subst IsRow (sym (take-append-drop m l)) r in
-    let f : has (take m l ++ drop m l) x ≡ false = has_append (take m l) (drop m l) x ∙ (or_false _ _ (none_above (take m l) x e) ∙ none_below (drop m l) x (row_right (take m l) (drop m l) c) b) in
+    let f : has (take m l ++ drop m l) x ≡ false = has_append (take m l) (drop m l) x ∙ (or_known _ _ (none_above (take m l) x e) ∙ none_below (drop m l) x (row_right (take m l) (drop m l) c) b) in
     sym (subst (λ t. has t x ≡ false) (take-append-drop m l) f)

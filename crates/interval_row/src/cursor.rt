@@ -1,7 +1,7 @@
 //! A cursor over the ends of a row's spans.
 
 ghost use Rattle.std.specs.Prelude.{◌≡◌};
-ghost use Rattle.interval_row.specs.Walk.{next_end, spans_past, inside_past, earlier};
+ghost use Rattle.interval_row.specs.Working.Walk.{next_end, spans_past, inside_past, earlier};
 
 use crate::span::Span;
 
@@ -24,7 +24,7 @@ impl Cursor<'_> {
     }
 
     /// Goes past the end at this place, where the next end is there.
-    pub fn pass(&mut self, at: i64)
+    pub fn go_past(&mut self, at: i64)
         ensures spans { self.new.spans.now ≡ spans_past at self.old.inside self.old.spans.now }
         ensures inside { self.new.inside ≡ inside_past at self.old.inside self.old.spans.now }
     {

@@ -1,5 +1,5 @@
 ghost use Rattle.std.specs.Prelude.{◌≡◌};
-ghost use Rattle.interval_row.specs.Rows.{joined};
+ghost use Rattle.interval_row.specs.Working.Operations.{joined};
 
 /// What is kept of two rows.
 #[derive(Clone, Copy)]

@@ -1,7 +1,7 @@
 //! A pen that draws a row from left to right.
 
 ghost use Rattle.std.specs.Prelude.{◌≡◌, IfOk, None, []};
-ghost use Rattle.interval_row.specs.Walk.{CanTurn, spans_turned, begun_turned};
+ghost use Rattle.interval_row.specs.Working.Walk.{CanTurn, spans_turned, begun_turned};
 
 use crate::row::Row;
 use std::alloc::{AllocError, Global};

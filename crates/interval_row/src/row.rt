@@ -1,7 +1,8 @@
 //! A row of spans, and what its callers see of it.
 
 ghost use Rattle.std.specs.Prelude.{◌≡◌, ◌<ℤ◌, ℤ, [], ◌∷◌, ◌++◌, ◌&&◌, ◌||◌, not, OnOk, OnErr, IfOk};
-ghost use Rattle.interval_row.specs.Rows.{IsRow, StandsBehind, has, exactly_one};
+ghost use Rattle.list_facts.specs.EitherOr.{exactly_one};
+ghost use Rattle.interval_row.specs.Rows.{IsRow, StandsBehind, has};
 
 use crate::operation::Operation;
 use crate::span::Span;

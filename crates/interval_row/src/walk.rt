@@ -1,8 +1,9 @@
 //! One walk over the ends of two rows.
 
 ghost use Rattle.std.specs.Prelude.{◌≡◌, ◌≤◌, ◌++◌, ℤ, false, length, take, IfOk, OnOk};
-ghost use Rattle.interval_row.specs.Rows.{IsRow, StandsBehind, has, joined};
-ghost use Rattle.interval_row.specs.Walk.{EndBefore, PassesAlone, Skips};
+ghost use Rattle.interval_row.specs.Working.Operations.{joined};
+ghost use Rattle.interval_row.specs.Rows.{IsRow, StandsBehind, has};
+ghost use Rattle.interval_row.specs.Working.Walk.{EndBefore, PassesAlone, Skips, rest_of, walk_of};
 
 use crate::cursor::{Cursor, earlier};
 use crate::operation::Operation;
@@ -33,8 +34,8 @@ pub fn combine(
     };
     let mut pen = Pen::new(alloc);
     while let Some(at) = earlier(a.next_end(), b.next_end()) {
-        a.pass(at);
-        b.pass(at);
+        a.go_past(at);
+        b.go_past(at);
         pen.turn(at, operation.keeps(a.inside, b.inside))?;
         skip_common(operation, &mut a, &mut b);
         pass_alone(operation, &mut a, &b, &mut pen)?;
@@ -46,7 +47,7 @@ pub fn combine(
 // Goes past the spans that come next in both rows, where the operation keeps nothing of them. Rows that stand above one
 // another mostly have the same spans.
 fn skip_common(operation: Operation, a: &mut Cursor<'_>, b: &mut Cursor<'_>)
-    ensures { Skips operation a.old.inside a.old.spans.now b.old.inside b.old.spans.now a.new.inside a.new.spans.now b.new.inside b.new.spans.now }
+    ensures { Skips operation (rest_of a.old) (rest_of b.old) (rest_of a.new) (rest_of b.new) }
 {
     if a.inside || b.inside || operation.keeps(true, true) {
         return;
@@ -65,7 +66,7 @@ fn pass_alone(
     pen: &mut Pen,
 ) -> Result<(), AllocError>
     requires { a.old.inside ≡ false → b.now.inside ≡ false → IsRow (pen.old.row ++ a.old.spans.now) }
-    ensures { OnOk result (PassesAlone operation a.old.inside a.old.spans.now b.now.inside b.now.spans.now pen.old.row pen.old.begun a.new.inside a.new.spans.now pen.new.row pen.new.begun) }
+    ensures { OnOk result (PassesAlone operation (walk_of a.old b.now pen.old) (walk_of a.new b.now pen.new)) }
 {
     if a.inside || b.inside {
         return Ok(());

@@ -1,18 +1,19 @@
 -- What changes on one line: the flips that a climb passes there, and those that a builder adds.
-use Rattle.std.proofs.Common.{◌≡◌, false, ◌&&◌, cond, inl, inr, ℕ, ◌+◌, ◌<◌, ◌≤◌, length, drop, get_or, pos, ℤ, ◌<ℤ◌, ◌≤ℤ◌, ◌+ℤ◌, int_le, int_lt, List, [], ◌∷◌, ◌++◌, refl, sym, subst, ap, ◌∙◌, arith}
+use Rattle.std.proofs.Common.{◌≡◌, false, ◌&&◌, cond, inl, inr, ℕ, ◌+◌, ◌<◌, ◌≤◌, length, drop, get_or, pos, ℤ, ◌<ℤ◌, ◌≤ℤ◌, ◌+ℤ◌, int_le, List, [], ◌∷◌, ◌++◌, refl, sym, subst, ap, ◌∙◌, arith}
 use Rattle.std.proofs.lemmas.Int.{ints, by_lt_z}
 use Rattle.std.proofs.lemmas.List.{drop_more}
+use Rattle.list_facts.proofs.EitherOr.{one_assoc}
+use Rattle.list_facts.proofs.Tests.{and_known, le_false, le_true}
+use Rattle.list_facts.specs.EitherOr.{exactly_one}
 use Rattle.interval_row.specs.declared.span.Span.{Span}
-use Rattle.interval_row.specs.Rows.{has, exactly_one, BeginsAbove, IsRow}
-use Rattle.interval_row.proofs.Places.{le_true, le_false, lt_false, none_below, begins_down}
+use Rattle.interval_row.specs.Rows.{has, BeginsAbove, IsRow}
 use Rattle.region_form.specs.declared.flip.Flip.{Flip}
 use Rattle.region_form.specs.Flips.{changes, squares, is_odd, StandsBeforeFirst, AreSorted, AreBelow}
 use Rattle.region_form.specs.Climbs.{flips_above}
-use Rattle.region_form.specs.Changes.{spans_up_to}
+use Rattle.region_form.specs.Working.Changes.{spans_up_to}
 use Rattle.region_form.specs.LineFlips.{flips_on}
-use Rattle.region_form.proofs.LineFlips.{sorted_on}
-use Rattle.region_form.proofs.Lines.{StandsFrom, from_rest, above_below, above_above}
-use Rattle.region_form.proofs.Parity.{odd_assoc, odd_left_false, either_is_odd, and_left, and_false}
+use Rattle.region_form.proofs.LineFlips.{sorted_on, first_or_rest}
+use Rattle.region_form.proofs.FlipLines.{StandsFrom, from_rest, above_below, above_above}
 
 -- the columns that a flip changes
 abbrev pub span_of : Flip → Span
@@ -40,16 +41,6 @@ spans_row line (f ∷ fs) s h =
     (λ l. subst IsRow (sym (spans_above line f fs l)) tt)
     (λ l. subst IsRow (sym (spans_below line f fs l)) (s.0, begins_next line f fs s.1 h, spans_row line fs s.2 (from_rest line f fs s.1 h)))
 
--- a place is in the first span of a row, or in the rest of it, and not in both
-not_both : (s : Span) (ss : List Span) (x : ℤ) → IsRow (s ∷ ss) → ((int_le s.lo x && int_lt x s.hi) && has ss x) ≡ false
-not_both s ss x r =
-    by_lt_z x s.hi
-    (λ l. ap (λ q. (int_le s.lo x && int_lt x s.hi) && q) (none_below ss x r.2 (begins_down x s.hi ss (omega (arith, ints)) r.1)) ∙ and_false _)
-    (λ l. ap (λ q. (int_le s.lo x && q) && has ss x) (lt_false x s.hi l) ∙ ap (λ q. q && has ss x) (and_false _))
-
-pub first_or_rest : (s : Span) (ss : List Span) (x : ℤ) → IsRow (s ∷ ss) → has (s ∷ ss) x ≡ exactly_one (int_le s.lo x && int_lt x s.hi) (has ss x)
-first_or_rest s ss x r = either_is_odd _ (has ss x) (not_both s ss x r)
-
 -- the flips that are passed, and those that are left
 pub is_odd_passed : (line : ℤ) (fs : List Flip) (x : ℤ) → AreSorted fs → StandsFrom line fs → is_odd fs x ≡ exactly_one (has (spans_up_to line fs) x) (is_odd (flips_above line fs) x)
 is_odd_passed line [] x s h = refl
@@ -57,14 +48,14 @@ is_odd_passed line (f ∷ fs) x s h =
     by_lt_z line f.y
     (λ l.
     let e : exactly_one (has (spans_up_to line (f ∷ fs)) x) (is_odd (flips_above line (f ∷ fs)) x) ≡ exactly_one false (is_odd (f ∷ fs) x) = ap (λ ss. exactly_one (has ss x) (is_odd (flips_above line (f ∷ fs)) x)) (spans_above line f fs l) ∙ ap (λ gs. exactly_one false (is_odd gs x)) (above_above line f fs l) in
-    sym (e ∙ odd_left_false (is_odd (f ∷ fs) x)))
+    sym e)
     (λ l.
     let ss = spans_up_to line fs in
     let gs = flips_above line fs in
     let i = is_odd_passed line fs x s.2 (from_rest line f fs s.1 h) in
     let r : IsRow (span_of f ∷ ss) = subst IsRow (spans_below line f fs l) (spans_row line (f ∷ fs) s h) in
     ap (exactly_one (changes f x)) i
-    ∙ (odd_assoc (changes f x) (has ss x) (is_odd gs x)
+    ∙ (one_assoc (changes f x) (has ss x) (is_odd gs x)
     ∙ (ap (λ p. exactly_one p (is_odd gs x)) (sym (first_or_rest (span_of f) ss x r))
     ∙ (ap (λ ts. exactly_one (has ts x) (is_odd gs x)) (sym (spans_below line f fs l))
     ∙ ap (λ ts. exactly_one (has (spans_up_to line (f ∷ fs)) x) (is_odd ts x)) (sym (above_below line f fs l))))))
@@ -84,16 +75,16 @@ squares_passed line (f ∷ fs) x y s h k =
     by_lt_z line f.y
     (λ l.
     let e : exactly_one (has (spans_up_to line (f ∷ fs)) x) (squares (flips_above line (f ∷ fs)) x y) ≡ exactly_one false (squares (f ∷ fs) x y) = ap (λ ss. exactly_one (has ss x) (squares (flips_above line (f ∷ fs)) x y)) (spans_above line f fs l) ∙ ap (λ gs. exactly_one false (squares gs x y)) (above_above line f fs l) in
-    sym (e ∙ odd_left_false (squares (f ∷ fs) x y)))
+    sym e)
     (λ l.
     let ss = spans_up_to line fs in
     let gs = flips_above line fs in
     let i = squares_passed line fs x y s.2 (from_rest line f fs s.1 h) k in
     let r : IsRow (span_of f ∷ ss) = subst IsRow (spans_below line f fs l) (spans_row line (f ∷ fs) s h) in
-    let c : (int_le f.y y && changes f x) ≡ changes f x = and_left (int_le f.y y) (changes f x) (le_true f.y y (omega (arith, ints))) in
+    let c : (int_le f.y y && changes f x) ≡ changes f x = and_known (int_le f.y y) (changes f x) (le_true f.y y (omega (arith, ints))) in
     ap (λ p. exactly_one p (squares fs x y)) c
     ∙ (ap (exactly_one (changes f x)) i
-    ∙ (odd_assoc (changes f x) (has ss x) (squares gs x y)
+    ∙ (one_assoc (changes f x) (has ss x) (squares gs x y)
     ∙ (ap (λ p. exactly_one p (squares gs x y)) (sym (first_or_rest (span_of f) ss x r))
     ∙ (ap (λ ts. exactly_one (has ts x) (squares gs x y)) (sym (spans_below line f fs l))
     ∙ ap (λ ts. exactly_one (has (spans_up_to line (f ∷ fs)) x) (squares ts x y)) (sym (above_below line f fs l)))))))

@@ -1,12 +1,7 @@
 pub mod Parity
-pub mod Lines
-pub mod Changes
-pub mod Steps
-pub mod SameSquares
-pub mod BandRows
-pub mod SameBands
+pub mod FlipLines
 pub mod FlipRows
-pub mod BandRise
 pub mod LineFlips
-pub mod LineStarts
-pub mod BandPush
+mod Changes
+mod Steps
+mod SameSquares

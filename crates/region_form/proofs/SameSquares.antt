@@ -2,15 +2,12 @@
 use Rattle.std.proofs.Common.{◌≡◌, Bool, true, false, ◌&&◌, inl, inr, ℤ, ◌<ℤ◌, ◌≤ℤ◌, int_le, int_lt, List, [], ◌∷◌, refl, sym, ◌∙◌, ap, arith}
 use Rattle.std.proofs.lemmas.Int.{ints, by_lt_z}
 use mathlib.Core.Bool.{true≢false}
-use Rattle.interval_row.specs.Rows.{exactly_one}
-use Rattle.interval_row.proofs.Places.{le_true, le_false, lt_true, lt_false}
+use Rattle.list_facts.proofs.EitherOr.{one_cancel, one_right_false}
+use Rattle.list_facts.proofs.Tests.{and_false, le_false, le_true, lt_false, lt_true, clash_with}
+use Rattle.list_facts.specs.EitherOr.{exactly_one}
 use Rattle.region_form.specs.declared.flip.Flip.{Flip}
 use Rattle.region_form.specs.Flips.{changes, squares, AreSorted}
-use Rattle.region_form.proofs.Parity.{odd_right_false, odd_cancel, and_false}
-use Rattle.region_form.proofs.Lines.{none_below_line}
-
-clash : {A : Type 0} (p q : Bool) → p ≡ q → p ≡ true → q ≡ false → A
-clash p q e f g = absurd (true≢false (sym f ∙ (e ∙ g)))
+use Rattle.region_form.proofs.FlipLines.{none_below_line}
 
 quiet_left : (f : Flip) (x : ℤ) → x <ℤ f.x0 → changes f x ≡ false
 quiet_left f x h = ap (λ q. q && int_lt x f.x1) (le_false f.x0 x h)
@@ -37,7 +34,7 @@ alone f (g ∷ gs) x y s e h =
 pub first_has : (f : Flip) (fs : List Flip) (x y : ℤ) → AreSorted (f ∷ fs) → y ≡ f.y → f.x0 ≤ℤ x → x <ℤ f.x1 → squares (f ∷ fs) x y ≡ true
 first_has f fs x y s e p q =
     ap (exactly_one (int_le f.y y && changes f x)) (alone f fs x y s e (omega (arith, ints)))
-    ∙ (odd_right_false (int_le f.y y && changes f x)
+    ∙ (one_right_false (int_le f.y y && changes f x)
     ∙ (ap (λ v. v && changes f x) (le_true f.y y (omega (arith, ints)))
     ∙ (ap (λ v. v && int_lt x f.x1) (le_true f.x0 x p) ∙ lt_true x f.x1 q)))
 
@@ -56,21 +53,21 @@ lies_low : (f g : Flip) (fs gs : List Flip) → AreSorted (f ∷ fs) → AreSort
 lies_low f g fs gs r s h =
     let k : f.x0 <ℤ f.x1 = r.0 in
     by_lt_z f.y g.y
-    (λ l. clash _ _ (h f.x0 f.y) (first_has f fs f.x0 f.y r refl (omega (arith, ints)) k) (none_below_line (g ∷ gs) f.x0 f.y s l))
+    (λ l. clash_with _ _ (h f.x0 f.y) (first_has f fs f.x0 f.y r refl (omega (arith, ints)) k) (none_below_line (g ∷ gs) f.x0 f.y s l))
     (λ l. l)
 
 begins_low : (f g : Flip) (fs gs : List Flip) → AreSorted (f ∷ fs) → AreSorted (g ∷ gs) → f.y ≡ g.y → ((x y : ℤ) → squares (f ∷ fs) x y ≡ squares (g ∷ gs) x y) → g.x0 ≤ℤ f.x0
 begins_low f g fs gs r s e h =
     let k : f.x0 <ℤ f.x1 = r.0 in
     by_lt_z f.x0 g.x0
-    (λ l. clash _ _ (h f.x0 f.y) (first_has f fs f.x0 f.y r refl (omega (arith, ints)) k) (left_of_first g gs f.x0 f.y s e l))
+    (λ l. clash_with _ _ (h f.x0 f.y) (first_has f fs f.x0 f.y r refl (omega (arith, ints)) k) (left_of_first g gs f.x0 f.y s e l))
     (λ l. l)
 
 ends_low : (f g : Flip) (fs gs : List Flip) → AreSorted (f ∷ fs) → AreSorted (g ∷ gs) → f.y ≡ g.y → f.x0 ≡ g.x0 → ((x y : ℤ) → squares (f ∷ fs) x y ≡ squares (g ∷ gs) x y) → g.x1 ≤ℤ f.x1
 ends_low f g fs gs r s e i h =
     let k : f.x0 <ℤ f.x1 = r.0 in
     by_lt_z f.x1 g.x1
-    (λ l. clash _ _ (sym (h f.x1 f.y)) (first_has g gs f.x1 f.y s e (omega (arith, ints)) l) (end_of_first f fs f.x1 f.y r refl refl))
+    (λ l. clash_with _ _ (sym (h f.x1 f.y)) (first_has g gs f.x1 f.y s e (omega (arith, ints)) l) (end_of_first f fs f.x1 f.y r refl refl))
     (λ l. l)
 
 same_flip : (f g : Flip) → f.y ≡ g.y → f.x0 ≡ g.x0 → f.x1 ≡ g.x1 → f ≡ g
@@ -78,7 +75,7 @@ same_flip f g p q r i = record { y = p i; x0 = q i; x1 = r i }
 
 rest_same : (f g : Flip) (fs gs : List Flip) → f ≡ g → ((x y : ℤ) → squares (f ∷ fs) x y ≡ squares (g ∷ gs) x y) → (x y : ℤ) → squares fs x y ≡ squares gs x y
 rest_same f g fs gs e h x y =
-    odd_cancel (int_le f.y y && changes f x) (squares fs x y) (squares gs x y)
+    one_cancel (int_le f.y y && changes f x) (squares fs x y) (squares gs x y)
     (h x y ∙ ap (λ (k : Flip). exactly_one (int_le k.y y && changes k x) (squares gs x y)) (sym e))
 
 pub same_flips : (a b : List Flip) → AreSorted a → AreSorted b → ((x y : ℤ) → squares a x y ≡ squares b x y) → a ≡ b

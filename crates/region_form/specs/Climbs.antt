@@ -1,22 +1,23 @@
 -- A climb up a region, line by line: the row above the last line that was passed, and the flips of the lines above it.
 use Rattle.std.specs.Prelude.{◌≡◌, ℤ, ◌<ℤ◌, int_le, if◌then◌else◌, Option, None, Some, List, [], ◌∷◌}
+use Rattle.list_facts.specs.EitherOr.{exactly_one}
 use Rattle.drc_geom.specs.Squares.{Squares}
 use Rattle.interval_row.specs.declared.span.Span.{Span}
-use Rattle.interval_row.specs.Rows.{has, exactly_one}
+use Rattle.interval_row.specs.Rows.{has}
 use Rattle.region_form.specs.declared.flip.Flip.{Flip}
 use Rattle.region_form.specs.Flips.{squares, is_odd, AreSorted}
 
 -- where a climb stands
-pub record Place : Type 0 where
+pub record Standpoint : Type 0 where
   pub row : List Span
   pub flips : List Flip
 
 -- the squares that are seen from there on, upwards: the row, changed by the flips that follow
-abbrev pub ahead : Place → Squares
+abbrev pub ahead : Standpoint → Squares
 ahead place x y = exactly_one (has place.row x) (squares place.flips x y)
 
 -- the row is what the flips that follow will undo
-pub record IsPlace (place : Place) : Type 0 where
+pub record IsStandpoint (place : Standpoint) : Type 0 where
   pub sorted : AreSorted place.flips
   pub undone : (x : ℤ) → has place.row x ≡ is_odd place.flips x
 

@@ -1,13 +1,15 @@
 -- Flips: a set of squares as the places where its rows change. On line y the squares of the columns x0 to x1 - 1
 -- change: the row above the line differs there from the row below it.
-use Rattle.std.specs.Prelude.{◌≡◌, ◌⊎◌, Bool, false, ◌&&◌, ℤ, ◌<ℤ◌, int_le, int_lt, List, [], ◌∷◌}
+use Rattle.std.specs.Prelude.{◌≡◌, ◌⊎◌, Bool, false, ◌&&◌, ℤ, ◌<ℤ◌, int_le, List, [], ◌∷◌}
+use Rattle.list_facts.specs.Between.{between}
+use Rattle.list_facts.specs.EitherOr.{exactly_one}
+use Rattle.std.specs.List.{AllByRecursion}
 use Rattle.drc_geom.specs.Squares.{Squares}
-use Rattle.interval_row.specs.Rows.{exactly_one}
 use Rattle.region_form.specs.declared.flip.Flip.{Flip}
 
 -- whether a flip changes column x
 abbrev pub changes : Flip → ℤ → Bool
-changes f x = int_le f.x0 x && int_lt x f.x1
+changes f x = between f.x0 f.x1 x
 
 -- the squares of flips: (x, y) is one exactly where an odd number of flips at or below row y change column x
 abbrev pub squares : List Flip → Squares
@@ -39,5 +41,4 @@ pub record IsRegion (flips : List Flip) : Type 0 where
 
 -- every flip lies on a line below this one
 abbrev pub AreBelow : ℤ → List Flip → Type 0
-AreBelow y [] = Unit {0}
-AreBelow y (f ∷ fs) = (f.y <ℤ y) × AreBelow y fs
+AreBelow y = AllByRecursion (λ f. f.y <ℤ y)

@@ -1,6 +1,4 @@
 pub mod Flips
 pub mod Climbs
-pub mod Changes
-pub mod Bands
-pub mod BandRise
 pub mod LineFlips
+pub mod Working

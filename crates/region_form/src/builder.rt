@@ -1,9 +1,16 @@
 //! The builder of a region: it rises line by line.
+//!
+//! ```text
+//!    . . ?  . . ?            each row from here on is as the last one, until the builder rises again
+//!    +--+-------+--+   y=2   rise(2, 2 to 5): the rows 1 to 6 and 2 to 5 differ in 1 and 6, which are the flips of line 2
+//!    |             |
+//!    +-------------+   y=0   rise(0, 1 to 6): the empty row and 1 to 6 differ in 1 to 6, the flip of line 0
+//! ```
 
 ghost use Rattle.std.specs.Prelude.{◌≡◌, [], ℤ, pos, ◌+ℤ◌, int_le, if◌then◌else◌, false, OnOk, OnErr};
 ghost use Rattle.interval_row.specs.Rows.{has};
 ghost use Rattle.region_form.specs.Flips.{AreBelow, squares};
-ghost use Rattle.region_form.specs.Climbs.{Place};
+ghost use Rattle.region_form.specs.Climbs.{Standpoint};
 
 use crate::flip::Flip;
 use crate::line_flips::flips_on;
@@ -21,13 +28,13 @@ pub struct Builder {
 }
 
 impl Model for Builder {
-    ghost use Rattle.region_form.specs.Climbs.{IsPlace, Place};
+    ghost use Rattle.region_form.specs.Climbs.{IsStandpoint, Standpoint};
 
-    ghost Value = { Place };
+    ghost Value = { Standpoint };
 
     ghost view = { λ b. record { row = b.row; flips = b.flips.items } };
 
-    ghost invariant = { λ b. IsPlace (record { row = b.row; flips = b.flips.items }) };
+    ghost invariant = { λ b. IsStandpoint (record { row = b.row; flips = b.flips.items }) };
 }
 
 impl Builder {

@@ -2,7 +2,7 @@
 
 ghost use Rattle.std.specs.Prelude.{◌≡◌, ◌≤◌, length, drop, IfOk};
 ghost use Rattle.interval_row.specs.Rows.{IsRow};
-ghost use Rattle.region_form.specs.Changes.{spans_up_to};
+ghost use Rattle.region_form.specs.Working.Changes.{spans_up_to};
 
 use crate::flip::Flip;
 use interval_row::Row;

@@ -1,8 +1,17 @@
 //! The reader of a region: it goes up line by line.
+//!
+//! ```text
+//!       +-------+      y=3   the flips that are left: those of line 3
+//!       |       |            <- the climb stands here: its row has the columns 2 to 5
+//!    +--+-------+--+   y=2   passed: the row below was 1 to 6, the flips of line 2 made it 2 to 5
+//!    |             |
+//!    +-------------+   y=0   passed: the row below had no column, the flip of line 0 made it 1 to 6
+//! ```
 
 ghost use Rattle.std.specs.Prelude.{◌≡◌, [], ℤ, ◌<ℤ◌, ◌≤ℤ◌, IfOk, OnOk, OnErr};
 ghost use Rattle.interval_row.specs.Rows.{has};
-ghost use Rattle.region_form.specs.Climbs.{IsPlace, LiesBelow, ahead, first_line, flips_above};
+ghost use Rattle.region_form.specs.Flips.{IsRegion};
+ghost use Rattle.region_form.specs.Climbs.{IsStandpoint, LiesBelow, ahead, first_line, flips_above};
 
 use crate::change::{flips_behind, row_up_to};
 use crate::flip::Flip;
@@ -21,19 +30,21 @@ pub struct Climb<'a> {
 }
 
 impl<'a> Model for Climb<'a> {
-    ghost use Rattle.region_form.specs.Climbs.{IsPlace, Place};
+    ghost use Rattle.region_form.specs.Flips.{IsRegion};
+    ghost use Rattle.region_form.specs.Climbs.{IsStandpoint, Standpoint};
 
-    ghost Value = { Place };
+    ghost Value = { Standpoint };
 
     ghost view = { λ c. record { row = c.row; flips = c.flips.now } };
 
-    ghost invariant = { λ c. IsPlace (record { row = c.row; flips = c.flips.now }) };
+    ghost invariant = { λ c. IsStandpoint (record { row = c.row; flips = c.flips.now }) };
 }
 
 impl<'a> Climb<'a> {
     /// A climb that stands below the lowest line of the region.
     pub fn new(alloc: Global, region: &'a Region) -> Climb<'a>
-        ensures { result ≡ record { row = []; flips = region.now } }
+        ensures place { result ≡ record { row = []; flips = region.now } }
+        ensures form { IsRegion region.now }
     {
         Climb {
             alloc,
@@ -46,7 +57,7 @@ impl<'a> Climb<'a> {
     pub fn next_line(&self) -> Option<i64>
         ensures line { result ≡ first_line self.now.flips }
         ensures row { (x y : ℤ) → LiesBelow y result → ahead self.now x y ≡ has self.now.row x }
-        ensures place { IsPlace self.now }
+        ensures place { IsStandpoint self.now }
     {
         first_line(self.flips)
     }

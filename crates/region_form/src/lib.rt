@@ -20,26 +20,19 @@
 //! given each row. So what is done with regions is done with rows.
 #![tactic(auto)]
 
-mod band;
-#[cfg(test)]
-mod band_tests;
-mod bands;
 mod builder;
 mod change;
 mod climb;
 mod flip;
 mod line_flips;
-mod push_band;
 mod region;
-mod same_bands;
 mod same_squares;
 #[cfg(test)]
 mod tests;
 
-pub use band::Band;
 pub use builder::Builder;
 pub use climb::Climb;
 pub use flip::Flip;
+pub use line_flips::flips_on;
 pub use region::Region;
-pub use same_bands::same_squares_same_bands;
 pub use same_squares::same_squares_same_region;

@@ -1,10 +1,10 @@
 //! A region, and what its callers see of it.
 
-ghost use Rattle.std.specs.Prelude.{◌≡◌, []};
+ghost use Rattle.std.specs.Prelude.{◌≡◌, ◌≤◌, ◌++◌, [], length, take, OnOk, OnErr};
 ghost use Rattle.region_form.specs.Flips.{AreSorted, IsRegion, squares};
 
 use crate::flip::Flip;
-use std::alloc::Global;
+use std::alloc::{AllocError, Global};
 use std::marker::Model;
 
 /// A set of squares, as its flips in the one form that equal sets share.
@@ -35,6 +35,25 @@ impl Region {
             alloc,
             flips: Vec::new(alloc),
         }
+    }
+
+    /// The allocator that the region's memory is from.
+    pub fn alloc(&self) -> Global {
+        self.alloc
+    }
+
+    /// Puts other flips in the place of those from an index on, where that leaves the form of a region.
+    /// Only want of memory is an error, and then nothing changes.
+    pub fn replace_end(&mut self, start: usize, end: &[Flip]) -> Result<(), AllocError>
+        requires start { start ≤ length self.old }
+        requires form { IsRegion (take start self.old ++ end.now) }
+        ensures ok { OnOk result (self.new ≡ take start self.old ++ end.now) }
+        ensures err { OnErr result (self.new ≡ self.old) }
+    {
+        // The room is taken first, so that nothing changes where memory is wanting.
+        self.flips.reserve(end.len())?;
+        self.flips.truncate(start);
+        self.flips.extend_from_slice(end)
     }
 
     /// Whether the region has the square of column x and row y, which are numbers of database units.

@@ -4,11 +4,13 @@ use Rattle.std.proofs.lemmas.Int.{ints, by_lt_z}
 use Rattle.std.proofs.lemmas.List.{take_all}
 use Rattle.std.specs.List.{AllByRecursion}
 use mathlib.Core.Bool.{true≢false}
+use Rattle.std.proofs.lemmas.Bool.{or_left}
+use Rattle.list_facts.proofs.Tests.{le_false, le_true, lt_false, lt_true, or_assoc, or_right_known}
 use Rattle.drc_geom.specs.declared.rect.Rect.{Rect}
 use Rattle.drc_geom.specs.Squares.{IsRect}
 use Rattle.interval_row.specs.declared.span.Span.{Span}
 use Rattle.interval_row.specs.Rows.{has, StandsBehind}
-use Rattle.interval_row.proofs.Places.{lt_true, le_true, lt_false, le_false, or_false_right, or_true, or_assoc, has_append}
+use Rattle.interval_row.proofs.Places.{has_append}
 use Rattle.region_merge.specs.Opening.{Ascends, across}
 use Rattle.region_merge.specs.Drawing.{row_past, span_past, drawn, CanDraw}
 
@@ -49,7 +51,7 @@ grown lo h a k x p q r =
     (λ l. let m : x <ℤ a = omega (arith, ints) in
     sym (either (inside lo h x) (inside lo k x) (inside a k x) false false (in_low a k x m) (in_low lo h x l) (in_low lo k x l)))
     (λ l. by_lt_z x h
-    (λ m. let n : x <ℤ k = omega (arith, ints) in in_true lo k x l n ∙ sym (or_true (inside lo h x) (inside a k x) (in_true lo h x l m)))
+    (λ m. let n : x <ℤ k = omega (arith, ints) in in_true lo k x l n ∙ sym (or_left (inside lo h x) (inside a k x) (in_true lo h x l m)))
     (λ m. by_lt_z x k
     (λ n. let o : a ≤ℤ x = omega (arith, ints) in
     sym (either (inside lo h x) (inside lo k x) (inside a k x) false true (in_true a k x o n) (in_high lo h x m) (in_true lo k x l n)))
@@ -59,13 +61,13 @@ grown lo h a k x p q r =
 held : (lo h a k x : ℤ) → lo ≤ℤ a → k ≤ℤ h → inside lo h x ≡ (inside lo h x || inside a k x)
 held lo h a k x p q =
     by_lt_z x lo
-    (λ l. let m : x <ℤ a = omega (arith, ints) in sym (or_false_right (inside lo h x) (inside a k x) (in_low a k x m)))
+    (λ l. let m : x <ℤ a = omega (arith, ints) in sym (or_right_known (inside lo h x) (inside a k x) (in_low a k x m)))
     (λ l. by_lt_z x h
-    (λ m. in_true lo h x l m ∙ sym (or_true (inside lo h x) (inside a k x) (in_true lo h x l m)))
-    (λ m. let n : k ≤ℤ x = omega (arith, ints) in sym (or_false_right (inside lo h x) (inside a k x) (in_high a k x n))))
+    (λ m. in_true lo h x l m ∙ sym (or_left (inside lo h x) (inside a k x) (in_true lo h x l m)))
+    (λ m. let n : k ≤ℤ x = omega (arith, ints) in sym (or_right_known (inside lo h x) (inside a k x) (in_high a k x n))))
 
 pub has_push : (row : List Span) (last : Span) (x : ℤ) → has (row ++ last ∷ []) x ≡ drawn row last x
-has_push row last x = has_append row (last ∷ []) x ∙ ap (λ v. has row x || v) (or_false_right (inside last.lo last.hi x) false refl)
+has_push row last x = has_append row (last ∷ []) x ∙ ap (λ v. has row x || v) (or_right_known (inside last.lo last.hi x) false refl)
 
 -- ---- one more span
 
@@ -141,7 +143,7 @@ draws_start row last all can = record { can = can; same = λ x. refl }
 
 pub draws_end : (row0 : List Span) (last0 : Span) (all : List Rect) (row : List Span) (last : Span) → Draws row0 last0 all row last []
     → (x : ℤ) → has (row ++ last ∷ []) x ≡ (drawn row0 last0 x || across all x)
-draws_end row0 last0 all row last d x = has_push row last x ∙ (sym (or_false_right (drawn row last x) false refl) ∙ d.same x)
+draws_end row0 last0 all row last d x = has_push row last x ∙ (sym (or_right_known (drawn row last x) false refl) ∙ d.same x)
 
 pub ok_drawn : {E : Type 0} (answer : Result (List Span) E) (row : List Span) (places : ℤ → Bool) → IfOk answer (λ t. t ≡ row)
     → ((x : ℤ) → has row x ≡ places x) → IfOk answer (λ t. (x : ℤ) → has t x ≡ places x)

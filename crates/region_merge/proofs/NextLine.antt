@@ -3,10 +3,9 @@ use Rattle.std.proofs.Common.{◌≡◌, ◌⊎◌, inl, inr, Bool, true, false,
 use Rattle.std.proofs.lemmas.Int.{ints, by_lt_z}
 use Rattle.std.specs.List.{AllByRecursion, filter, position_or_len}
 use mathlib.Core.Bool.{true≢false}
-use Rattle.interval_row.specs.Walk.{earlier}
-use Rattle.interval_row.proofs.Places.{le_true, le_false, lt_false}
+use Rattle.list_facts.proofs.Tests.{le_false, le_true, lt_false}
 use Rattle.drc_geom.specs.declared.rect.Rect.{Rect}
-use Rattle.region_merge.specs.Opening.{StandsUnder, Rises, first_bottom, lowest_top, next_line}
+use Rattle.region_merge.specs.Opening.{StandsUnder, Rises, first_bottom, lowest_top, next_line, earlier}
 use Rattle.region_merge.proofs.Fronts.{all_weaker}
 
 -- ---- the lower of two lines

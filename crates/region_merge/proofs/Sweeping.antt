@@ -4,14 +4,14 @@ use Rattle.std.proofs.lemmas.Int.{ints, by_lt_z}
 use Rattle.std.proofs.lemmas.List.{take-append-drop}
 use Rattle.std.specs.List.{AllByRecursion, filter, position_or_len}
 use mathlib.Core.Bool.{true≢false}
+use Rattle.list_facts.proofs.Tests.{le_false, le_true, lt_false, lt_true, or_assoc, or_known, or_right_known}
 use Rattle.interval_row.specs.declared.span.Span.{Span}
 use Rattle.interval_row.specs.Rows.{has}
-use Rattle.interval_row.proofs.Places.{lt_true, le_true, lt_false, le_false, or_assoc, or_false_right, or_false}
 use Rattle.drc_geom.specs.declared.rect.Rect.{Rect}
 use Rattle.drc_geom.specs.Squares.{IsRect, squares_of, covered}
 use Rattle.region_form.specs.declared.flip.Flip.{Flip}
 use Rattle.region_form.specs.Flips.{AreBelow, squares}
-use Rattle.region_form.specs.Climbs.{Place}
+use Rattle.region_form.specs.Climbs.{Standpoint}
 use Rattle.region_merge.specs.Opening.{StandsUnder, Rises, Ascends, across, next_line, woven}
 use Rattle.region_merge.proofs.Fronts.{place_within, take_one_more, drop_one_more, all_left, all_take, all_drop, all_weaker, all_both}
 use Rattle.region_merge.proofs.NextLine.{no_more_stand, begins_or_ends, tops_from, bottoms_from, next_above, nothing_left}
@@ -23,7 +23,7 @@ pub record Crosses (line : ℤ) (r : Rect) : Type 0 where
   pub low : r.y0 ≤ℤ line
   pub high : line <ℤ r.y1
 
-pub record IsSweep (all : List Rect) (built : Place) (rest standing : List Rect) : Type 0 where
+pub record IsSweep (all : List Rect) (built : Standpoint) (rest standing : List Rect) : Type 0 where
   -- the last line that was passed
   pub line : ℤ
   pub areas : AllByRecursion IsRect rest
@@ -65,7 +65,7 @@ level_square r x y h k =
 
 none_low : (rs : List Rect) (x y : ℤ) → AllByRecursion (λ r. y <ℤ r.y0) rs → covered rs x y ≡ false
 none_low [] x y a = refl
-none_low (r ∷ rs) x y a = or_false (squares_of r x y) (covered rs x y) (low_square r x y a.0) ∙ none_low rs x y a.1
+none_low (r ∷ rs) x y a = or_known (squares_of r x y) (covered rs x y) (low_square r x y a.0) ∙ none_low rs x y a.1
 
 abbrev IsLevel : ℤ → Rect → Type 0
 IsLevel y r = (r.y0 ≤ℤ y) × (y <ℤ r.y1)
@@ -90,7 +90,7 @@ stay_covered_by : (line : ℤ) (r : Rect) (ks : List Rect) (x y : ℤ) (v b : Bo
 stay_covered_by line r ks x y v true e h k = ap (λ b. squares_of r x y || b) k
 stay_covered_by line r ks x y v false e h k =
     let l = le_from_false line r.y1 e in
-    k ∙ sym (or_false (squares_of r x y) v (high_square r x y (omega (arith, ints))))
+    k ∙ sym (or_known (squares_of r x y) v (high_square r x y (omega (arith, ints))))
 
 stay_covered : (line : ℤ) (rs : List Rect) (x y : ℤ) → line ≤ℤ y → covered (filter (λ r. int_lt line r.y1) rs) x y ≡ covered rs x y
 stay_covered line [] x y h = refl
@@ -212,7 +212,7 @@ below_up : (fs : List Flip) (p q : ℤ) → p ≤ℤ q → AreBelow p fs → Are
 below_up [] p q h b = tt
 below_up (f ∷ fs) p q h b = let k : f.y <ℤ p = b.0 in (omega (arith, ints), below_up fs p q h b.1)
 
-module _ (all : List Rect) (built : Place) (rest standing : List Rect) (sweep : IsSweep all built rest standing) where
+module _ (all : List Rect) (built : Standpoint) (rest standing : List Rect) (sweep : IsSweep all built rest standing) where
   module _ (line : ℤ) (is : next_line rest standing ≡ Some line) where
     stood : List Rect
     stood = filter (λ r. int_lt line r.y1) standing
@@ -282,7 +282,7 @@ module _ (all : List Rect) (built : Place) (rest standing : List Rect) (sweep : 
         all_weaker (λ r. line ≤ℤ r.y0) (λ r. y <ℤ r.y0) (λ r b. omega (arith, ints)) rest (bottoms_from line rest standing sweep.rises is) in
         sweep.up x y h
         ∙ (sym (level_covered standing x y level)
-        ∙ (sym (or_false_right (covered standing x y) (covered rest x y) (none_low rest x y high)) ∙ sym (sweep.ahead x y h)))
+        ∙ (sym (or_right_known (covered standing x y) (covered rest x y) (none_low rest x y high)) ∙ sym (sweep.ahead x y h)))
 
     all_below : (x y : ℤ) → y <ℤ line → squares built.flips x y ≡ covered all x y
     all_below x y h = by_lt_z y sweep.line (λ l. sweep.below x y l) (λ l. between x y l h)
@@ -306,7 +306,7 @@ module _ (all : List Rect) (built : Place) (rest standing : List Rect) (sweep : 
     by_line_up p q r true e h = h
     by_line_up p q r false e h = absurd (true≢false (sym e))
 
-    sweep_step : (next : Place) → AreBelow (line +ℤ pos 1) next.flips
+    sweep_step : (next : Standpoint) → AreBelow (line +ℤ pos 1) next.flips
         → ((x : ℤ) → has next.row x ≡ across (woven (filter (λ r. int_lt line r.y1) standing) (take (begun_by line rest) rest)) x)
         → ((x y : ℤ) → squares next.flips x y ≡ cond (int_le line y) (has next.row x) (squares built.flips x y))
         → IsSweep all next (drop (begun_by line rest) rest) (woven (filter (λ r. int_lt line r.y1) standing) (take (begun_by line rest) rest))
@@ -326,7 +326,7 @@ module _ (all : List Rect) (built : Place) (rest standing : List Rect) (sweep : 
     }
 
     -- the same, from what each part of a step gave
-    pub sweep_risen : (next : Place) (n : ℕ) (came left stands : List Rect) (row : List Span)
+    pub sweep_risen : (next : Standpoint) (n : ℕ) (came left stands : List Rect) (row : List Span)
         → n ≡ position_or_len (λ r. int_lt line r.y0) rest → came ≡ take n rest → left ≡ drop n rest
         → stands ≡ woven (filter (λ r. int_lt line r.y1) standing) came
         → ((x : ℤ) → has row x ≡ across stands x) → next.row ≡ row → AreBelow (line +ℤ pos 1) next.flips

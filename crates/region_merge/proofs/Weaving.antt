@@ -4,7 +4,7 @@ use Rattle.std.proofs.lemmas.Int.{ints, by_lt_z}
 use Rattle.std.proofs.lemmas.List.{take-append-drop}
 use Rattle.std.specs.List.{AllByRecursion, position_or_len}
 use mathlib.Core.Bool.{true≢false}
-use Rattle.interval_row.proofs.Places.{le_true, le_from_true, or_assoc}
+use Rattle.list_facts.proofs.Tests.{le_from_true, le_true, or_assoc}
 use Rattle.drc_geom.specs.declared.rect.Rect.{Rect}
 use Rattle.drc_geom.specs.Squares.{squares_of, covered}
 use Rattle.region_merge.specs.Opening.{Ascends, woven}

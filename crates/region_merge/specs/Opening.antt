@@ -1,8 +1,7 @@
 -- The rectangles of a sweep: those that are left rise, and those that the line crosses ascend by their left sides.
-use Rattle.std.specs.Prelude.{◌≡◌, ◌⊎◌, Bool, false, ◌&&◌, ◌||◌, ℤ, ◌<ℤ◌, ◌≤ℤ◌, int_le, int_lt, Option, None, Some, List, [], ◌∷◌, ◌++◌, take, drop}
+use Rattle.std.specs.Prelude.{◌≡◌, ◌⊎◌, Bool, false, ◌&&◌, ◌||◌, ℤ, ◌<ℤ◌, ◌≤ℤ◌, int_le, int_lt, if◌then◌else◌, Option, None, Some, List, [], ◌∷◌, ◌++◌, take, drop}
 use Rattle.std.specs.List.{AllByRecursion, position_or_len}
 use Rattle.drc_geom.specs.declared.rect.Rect.{Rect}
-use Rattle.interval_row.specs.Walk.{earlier}
 
 -- b begins on a higher line than a, or on its line and not left of it
 abbrev pub StandsUnder : Rect → Rect → Type 0
@@ -22,6 +21,12 @@ Ascends (r ∷ rs) = AllByRecursion (λ s. r.x0 ≤ℤ s.x0) rs × Ascends rs
 abbrev pub across : List Rect → ℤ → Bool
 across [] x = false
 across (r ∷ rs) x = (int_le r.x0 x && int_lt x r.x1) || across rs x
+
+-- the lower of two lines, either of which may be wanting
+abbrev pub earlier : Option ℤ → Option ℤ → Option ℤ
+earlier None q = q
+earlier (Some x) None = Some x
+earlier (Some x) (Some y) = Some (if int_le x y then x else y)
 
 -- the line where the first rectangle begins
 abbrev pub first_bottom : List Rect → Option ℤ

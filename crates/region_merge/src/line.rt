@@ -2,8 +2,7 @@
 
 ghost use Rattle.std.specs.Prelude.{◌≡◌, int_lt};
 ghost use Rattle.std.specs.List.{position_or_len};
-ghost use Rattle.interval_row.specs.Walk.{earlier};
-ghost use Rattle.region_merge.specs.Opening.{first_bottom, lowest_top, next_line};
+ghost use Rattle.region_merge.specs.Opening.{first_bottom, lowest_top, next_line, earlier};
 
 use drc_geom::Rect;
 

@@ -1,15 +1,15 @@
 //! The lines of a deck.
 
 ghost use Rattle.std.specs.Prelude.{◌≡◌, Some, None};
-ghost use Rattle.drc_cli.specs.DeckReading.{Gives, head_at, layer_at, second_at, operation_at, check_at, parts_at};
-ghost use Rattle.drc_cli.specs.DeckView.{head_of, layer_of, second_of, decimal_of, check_of, parts_of};
+ghost use Rattle.drc_cli.specs.Working.DeckReading.{Gives, head_at, layer_at, second_at, operation_at, check_at, parts_at};
+ghost use Rattle.drc_cli.specs.Working.DeckView.{head_of, layer_of, second_of, decimal_of, check_of, parts_of};
 
+use crate::deck::field::{after, file_name, note, word};
 use crate::deck::number::{Bound, bound_of, layer_number};
-use crate::deck::piece::{after, file_name, note, word};
 
 /// The lines above those of the layers.
 #[derive(Drop)]
-pub struct Heading<'a> {
+pub struct Preamble<'a> {
     pub layout: &'a [u8],
     pub primary: &'a [u8],
     pub results: &'a [u8],
@@ -33,15 +33,15 @@ pub struct Rule<'a> {
 
 /// All lines of a deck.
 #[derive(Drop)]
-pub struct Lines<'a> {
-    pub heading: Heading<'a>,
+pub struct DeckLines<'a> {
+    pub preamble: Preamble<'a>,
     pub first: Layer<'a>,
     pub second: Option<Layer<'a>>,
     pub rule: Rule<'a>,
 }
 
-#[tactic(auto, unfolding(crate::specs::DeckReading::head_at, crate::specs::Deck::before_layout, crate::specs::Deck::before_primary, crate::specs::Deck::before_results, crate::specs::Deck::before_layers))]
-fn heading_of(text: &[u8]) -> Option<(Heading<'_>, &[u8])>
+#[tactic(auto, unfolding(crate::specs::Working::DeckReading::head_at, crate::specs::Deck::before_layout, crate::specs::Deck::before_primary, crate::specs::Deck::before_results, crate::specs::Deck::before_layers))]
+fn preamble_of(text: &[u8]) -> Option<(Preamble<'_>, &[u8])>
     ensures { Gives (λ x. (head_of x.0, x.1.now)) result (head_at text.now) }
 {
     let rest = after(text, b"LAYOUT SYSTEM GDSII\nLAYOUT PATH \"")?;
@@ -52,7 +52,7 @@ fn heading_of(text: &[u8]) -> Option<(Heading<'_>, &[u8])>
     let (results, rest) = file_name(rest)?;
     let rest = after(rest, b"\" ASCII\n")?;
     Some((
-        Heading {
+        Preamble {
             layout,
             primary,
             results,
@@ -61,7 +61,7 @@ fn heading_of(text: &[u8]) -> Option<(Heading<'_>, &[u8])>
     ))
 }
 
-#[tactic(auto, unfolding(crate::specs::DeckReading::layer_at, crate::specs::Deck::before_name, crate::specs::Deck::before_number, crate::specs::Deck::after_number))]
+#[tactic(auto, unfolding(crate::specs::Working::DeckReading::layer_at, crate::specs::Deck::before_name, crate::specs::Deck::before_number, crate::specs::Deck::after_number))]
 fn layer_of(text: &[u8]) -> Option<(Layer<'_>, &[u8])>
     ensures { Gives (λ x. (layer_of x.0, x.1.now)) result (layer_at text.now) }
 {
@@ -73,7 +73,7 @@ fn layer_of(text: &[u8]) -> Option<(Layer<'_>, &[u8])>
     Some((Layer { name, number }, rest))
 }
 
-#[tactic(auto, unfolding(crate::specs::DeckReading::second_at, crate::specs::Deck::before_name))]
+#[tactic(auto, unfolding(crate::specs::Working::DeckReading::second_at, crate::specs::Deck::before_name))]
 fn second_layer_of(text: &[u8]) -> Option<(Option<Layer<'_>>, &[u8])>
     ensures { Gives (λ x. (second_of x.0, x.1.now)) result (second_at text.now) }
 {
@@ -86,7 +86,7 @@ fn second_layer_of(text: &[u8]) -> Option<(Option<Layer<'_>>, &[u8])>
     }
 }
 
-#[tactic(auto, unfolding(crate::specs::DeckReading::operation_at, crate::specs::Deck::before_input, crate::specs::Deck::before_bound, crate::specs::Deck::after_bound))]
+#[tactic(auto, unfolding(crate::specs::Working::DeckReading::operation_at, crate::specs::Deck::before_input, crate::specs::Deck::before_bound, crate::specs::Deck::after_bound))]
 fn operation_of(text: &[u8]) -> Option<(&[u8], Bound<'_>, &[u8])>
     ensures { Gives (λ x. (x.0.now, decimal_of x.1, x.2.now)) result (operation_at text.now) }
 {
@@ -98,7 +98,7 @@ fn operation_of(text: &[u8]) -> Option<(&[u8], Bound<'_>, &[u8])>
     Some((input, bound, rest))
 }
 
-#[tactic(auto, unfolding(crate::specs::DeckReading::check_at, crate::specs::Deck::before_note))]
+#[tactic(auto, unfolding(crate::specs::Working::DeckReading::check_at, crate::specs::Deck::before_note))]
 fn rule_of(text: &[u8]) -> Option<(Rule<'_>, &[u8])>
     ensures { Gives (λ x. (check_of x.0, x.1.now)) result (check_at text.now) }
 {
@@ -117,19 +117,19 @@ fn rule_of(text: &[u8]) -> Option<(Rule<'_>, &[u8])>
     ))
 }
 
-#[tactic(auto, unfolding(crate::specs::DeckReading::parts_at))]
-pub fn lines_of(text: &[u8]) -> Option<Lines<'_>>
+#[tactic(auto, unfolding(crate::specs::Working::DeckReading::parts_at))]
+pub fn lines_of(text: &[u8]) -> Option<DeckLines<'_>>
     ensures { Gives parts_of result (parts_at text.now) }
 {
-    let (heading, rest) = heading_of(text)?;
+    let (preamble, rest) = preamble_of(text)?;
     let (first, rest) = layer_of(rest)?;
     let (second, rest) = second_layer_of(rest)?;
     let (rule, rest) = rule_of(rest)?;
     if !rest.is_empty() {
         return None;
     }
-    Some(Lines {
-        heading,
+    Some(DeckLines {
+        preamble,
         first,
         second,
         rule,

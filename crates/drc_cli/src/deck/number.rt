@@ -4,10 +4,10 @@ ghost use Rattle.std.specs.Prelude.{◌≡◌, ◌≤◌, length, IfSome};
 ghost use Rattle.std.specs.Char.{is_ascii_digit};
 ghost use Rattle.std.specs.List.{prefix_len, AllPass};
 ghost use Rattle.std.specs.Str.Parse.{digits_value};
-ghost use Rattle.drc_cli.specs.DeckReading.{Gives, field_at, is_numeral, is_fraction, number_at, layer_number_at, fraction_at, bound_at};
-ghost use Rattle.drc_cli.specs.DeckView.{decimal_of};
+ghost use Rattle.drc_cli.specs.Working.DeckReading.{Gives, field_at, is_numeral, is_fraction, number_at, layer_number_at, fraction_at, bound_at};
+ghost use Rattle.drc_cli.specs.Working.DeckView.{decimal_of};
 
-use crate::deck::piece::after;
+use crate::deck::field::after;
 
 /// A number in user units: its whole part, and its digits behind the point.
 #[derive(Drop)]
@@ -23,14 +23,14 @@ fn digits_len(text: &[u8]) -> usize
     text.iter().take_while(|b| b.is_ascii_digit()).count()
 }
 
-#[tactic(auto, unfolding(crate::specs::DeckReading::is_numeral))]
+#[tactic(auto, unfolding(crate::specs::Working::DeckReading::is_numeral))]
 fn is_numeral(digits: &[u8], most: usize) -> bool
     ensures { result ≡ is_numeral most digits.now }
 {
     !digits.is_empty() && digits.len() <= most && (digits[0] != b'0' || digits.len() == 1)
 }
 
-#[tactic(auto, unfolding(crate::specs::DeckReading::field_at, crate::specs::DeckReading::is_numeral))]
+#[tactic(auto, unfolding(crate::specs::Working::DeckReading::field_at, crate::specs::Working::DeckReading::is_numeral))]
 fn numeral(text: &[u8], most: usize) -> Option<(&[u8], &[u8])>
     ensures field { Gives (λ x. (x.0.now, x.1.now)) result (field_at is_ascii_digit (is_numeral most) text.now) }
     ensures digits { IfSome result (λ x. AllPass is_ascii_digit x.0.now) }
@@ -56,7 +56,7 @@ fn value(digits: &[u8]) -> u32
     value
 }
 
-#[tactic(auto, unfolding(crate::specs::DeckReading::number_at))]
+#[tactic(auto, unfolding(crate::specs::Working::DeckReading::number_at))]
 fn number(text: &[u8], most: usize) -> Option<(u32, &[u8])>
     requires { most ≤ 9 }
     ensures { Gives (λ x. (x.0, x.1.now)) result (number_at most text.now) }
@@ -65,7 +65,7 @@ fn number(text: &[u8], most: usize) -> Option<(u32, &[u8])>
     Some((value(digits), rest))
 }
 
-#[tactic(auto, unfolding(crate::specs::DeckReading::layer_number_at))]
+#[tactic(auto, unfolding(crate::specs::Working::DeckReading::layer_number_at))]
 pub fn layer_number(text: &[u8]) -> Option<(u16, &[u8])>
     ensures { Gives (λ x. (x.0, x.1.now)) result (layer_number_at text.now) }
 {
@@ -77,7 +77,7 @@ pub fn layer_number(text: &[u8]) -> Option<(u16, &[u8])>
     }
 }
 
-#[tactic(auto, unfolding(crate::specs::DeckReading::field_at, crate::specs::DeckReading::is_fraction))]
+#[tactic(auto, unfolding(crate::specs::Working::DeckReading::field_at, crate::specs::Working::DeckReading::is_fraction))]
 fn few_digits(text: &[u8]) -> Option<(&[u8], &[u8])>
     ensures { Gives (λ x. (x.0.now, x.1.now)) result (field_at is_ascii_digit is_fraction text.now) }
 {
@@ -89,7 +89,7 @@ fn few_digits(text: &[u8]) -> Option<(&[u8], &[u8])>
     }
 }
 
-#[tactic(auto, unfolding(crate::specs::DeckReading::fraction_at, crate::specs::Deck::point))]
+#[tactic(auto, unfolding(crate::specs::Working::DeckReading::fraction_at, crate::specs::Deck::point))]
 fn fraction(text: &[u8]) -> Option<(&[u8], &[u8])>
     ensures { Gives (λ x. (x.0.now, x.1.now)) result (fraction_at text.now) }
 {
@@ -99,7 +99,7 @@ fn fraction(text: &[u8]) -> Option<(&[u8], &[u8])>
     }
 }
 
-#[tactic(auto, unfolding(crate::specs::DeckReading::bound_at))]
+#[tactic(auto, unfolding(crate::specs::Working::DeckReading::bound_at))]
 pub fn bound_of(text: &[u8]) -> Option<(Bound<'_>, &[u8])>
     ensures { Gives (λ x. (decimal_of x.0, x.1.now)) result (bound_at text.now) }
 {

@@ -1,7 +1,7 @@
 //! The five points of a rectangle, as XY holds them.
 
 ghost use Rattle.std.specs.Prelude.{◌≡◌, ◌+◌, ◌*◌, ◌<◌, ◌≤◌, ◌↔◌, IsTrue, length};
-ghost use Rattle.drc_cli.specs.Layout.{coordinate, coordinates, coordinates_of, rect_in, IsOutline, IsInRange};
+ghost use Rattle.drc_cli.specs.Layout.{coordinate, points_in, rect_in, IsOutline, IsInRange};
 ghost use Rattle.drc_geom.specs.Squares.{IsRect};
 ghost use Rattle.drc_geom.specs.Winding.{outline};
 
@@ -53,7 +53,7 @@ fn is_in_range(r: &Rect) -> bool
 
 fn goes_round(body: &[u8], r: &Rect) -> bool
     requires { length body.now ≡ 40 }
-    ensures { IsTrue result ↔ (coordinates body.now ≡ coordinates_of (outline r.now)) }
+    ensures { IsTrue result ↔ (points_in body.now ≡ outline r.now) }
 {
     is_at(body, 0, r.x0, r.y0)
         && is_at(body, 1, r.x1, r.y0)
@@ -70,9 +70,9 @@ fn is_at(body: &[u8], point: usize, x: i64, y: i64) -> bool
     coordinate(body, 2 * point) == x && coordinate(body, 2 * point + 1) == y
 }
 
-fn coordinate(body: &[u8], place: usize) -> i64
-    requires { 4 * place + 4 ≤ length body.now }
-    ensures { result ≡ coordinate place body.now }
+fn coordinate(body: &[u8], index: usize) -> i64
+    requires { 4 * index + 4 ≤ length body.now }
+    ensures { result ≡ coordinate index body.now }
 {
-    i64::from(BigEndian::read_i32(&body[4 * place..]))
+    i64::from(BigEndian::read_i32(&body[4 * index..]))
 }

@@ -1,17 +1,17 @@
 //! Reads a layout piece by piece.
 
 ghost use Rattle.std.specs.Prelude.{◌≡◌, ◌<◌, ℕ, List, [], length, IfOk, IsTrue};
-ghost use Rattle.drc_cli.specs.LayoutReading.{IsWanting, ReadsPiece, piece_tally, ReadsAll, reading_tally};
+ghost use Rattle.drc_cli.specs.Working.LayoutReading.{sought, IsWanting, ReadsPiece, piece_tally, ReadsAll, reading_tally};
 
 use super::reader::{Reader, Stop};
+use crate::buffer::buffer;
 use drc_ports::Files;
+use gds_records::LONGEST_LAYOUT;
 use std::alloc::{AllocError, Global};
 
-/// How many bytes are read at once.
-const PIECE: usize = 65_536;
-
-/// More pieces than a layout can have: each has a byte, and a reader that still wants more has at most 2^30 + 3.
-const PIECES: u32 = (1 << 30) + 4;
+/// More pieces than a layout can have: each has a byte, and a reader that still wants more has at most three beyond the
+/// longest layout.
+const PIECES: u64 = LONGEST_LAYOUT + 4;
 
 /// Reads to the first fact that ends the reading.
 pub fn read_all<F: Files>(
@@ -22,19 +22,13 @@ pub fn read_all<F: Files>(
     number: u16,
 ) -> Result<Stop, AllocError>
     requires started { IsTrue (F.tally files.old).started }
-    requires fresh { IsWanting primary.now number [] reader.old.framer reader.old.place reader.old.rects.items }
-    ensures stopped { ReadsAll primary.now number F.tells (F.contents files.old).left result reader.new.rects.items }
+    requires fresh { IsWanting (sought primary.now number) [] reader.old }
+    ensures stopped { ReadsAll (sought primary.now number) F.tells (F.contents files.old).left result reader.new.rects.items }
     ensures same { IsTrue F.tells → F.contents files.new ≡ record (F.contents files.old) { left = (F.contents files.new).left } }
     ensures counts { F.tally files.new ≡ reading_tally result (F.tally files.old) }
 {
-    let mut piece = zeros(alloc, PIECE)?;
+    let mut piece = buffer(alloc)?;
     read_pieces(files, &mut piece, reader, primary, number)
-}
-
-fn zeros(alloc: Global, count: usize) -> Result<Vec<u8>, AllocError>
-    ensures { IfOk result (λ bytes. length bytes.items ≡ count) }
-{
-    vec![in alloc; 0u8; count]
 }
 
 fn read_pieces<F: Files>(
@@ -46,8 +40,8 @@ fn read_pieces<F: Files>(
 ) -> Result<Stop, AllocError>
     requires started { IsTrue (F.tally files.old).started }
     requires room { 0 < length piece.old }
-    requires fresh { IsWanting primary.now number [] reader.old.framer reader.old.place reader.old.rects.items }
-    ensures stopped { ReadsAll primary.now number F.tells (F.contents files.old).left result reader.new.rects.items }
+    requires fresh { IsWanting (sought primary.now number) [] reader.old }
+    ensures stopped { ReadsAll (sought primary.now number) F.tells (F.contents files.old).left result reader.new.rects.items }
     ensures same { IsTrue F.tells → F.contents files.new ≡ record (F.contents files.old) { left = (F.contents files.new).left } }
     ensures counts { F.tally files.new ≡ reading_tally result (F.tally files.old) }
 {
@@ -70,10 +64,9 @@ fn read_piece<F: Files>(
 ) -> Result<Option<Stop>, AllocError>
     requires started { IsTrue (F.tally files.old).started }
     requires room { 0 < length piece.old }
-    ensures read { (fed : List ℕ)
-        → IsWanting primary.now number fed reader.old.framer reader.old.place reader.old.rects.items
-        → ReadsPiece primary.now number F.tells fed (F.contents files.old).left (F.contents files.new).left result
-        reader.new.framer reader.new.place reader.new.rects.items }
+    ensures read { (fed : List ℕ) → IsWanting (sought primary.now number) fed reader.old
+        → ReadsPiece (sought primary.now number) fed
+        (record { tells = F.tells; before = (F.contents files.old).left; now = (F.contents files.new).left }) result reader.new }
     ensures same { IsTrue F.tells → F.contents files.new ≡ record (F.contents files.old) { left = (F.contents files.new).left } }
     ensures counts { F.tally files.new ≡ piece_tally result (F.tally files.old) }
 {

@@ -2,12 +2,11 @@
 
 ghost use Rattle.std.specs.Prelude.{◌≡◌, ◌≢◌, ◌<◌, ◌++◌, ℕ, [], List, length, false, IsTrue, IfOk};
 ghost use Rattle.gds_records.specs.Records.{Item};
-ghost use Rattle.gds_records.specs.Stream.{item_of, start_of_stream};
-ghost use Rattle.drc_cli.specs.Layout.{Stands, following, drawn_at, rects_on};
-ghost use Rattle.drc_cli.specs.LayoutReading.{end_of_reading, IsAt, Steps, TakesAll};
+ghost use Rattle.gds_records.specs.Stream.{item_of};
+ghost use Rattle.drc_cli.specs.Layout.{Stands, following};
 
 use super::outline::rect_in;
-use super::place::Place;
+use super::slot::Slot;
 use drc_geom::Rect;
 use gds_records::{Framer, LayoutFault, LayoutKind, LayoutRefusal, Record};
 use std::alloc::{AllocError, Global};
@@ -34,24 +33,24 @@ pub enum Step {
     Stopped(Stop),
 }
 
-/// The records so far: what is left of the bytes, the place of the next record, and the rectangles of the layer.
+/// The records so far: what is left of the bytes, the slot of the next record, and the rectangles of the layer.
 #[derive(Drop)]
 pub struct Reader {
     pub framer: Framer,
-    pub place: Place,
+    pub slot: Slot,
     pub rects: Vec<Rect>,
 }
 
 impl Reader {
+    ghost use Rattle.drc_cli.specs.Working.LayoutReading.{end_of_reading, elements_at, rects_on, IsAt, IsWanting, Sought, sought, Steps, TakesAll};
+
     /// A reader at the start of a layout.
     pub fn new(alloc: Global) -> Reader
-        ensures framer { result.framer ≡ start_of_stream }
-        ensures place { result.place ≡ Place.Header }
-        ensures rects { result.rects.items ≡ [] }
+        ensures { (of : Sought) → IsWanting of [] result }
     {
         Reader {
             framer: Framer::new(alloc),
-            place: Place::Header,
+            slot: Slot::Header,
             rects: Vec::new(alloc),
         }
     }
@@ -60,9 +59,8 @@ impl Reader {
     /// None where more bytes are wanted.
     pub fn take_all(&mut self, primary: &[u8], number: u16) -> Result<Option<Stop>, AllocError>
         ensures reads_none { result ≢ Ok (Some Stop.ReadFault) }
-        ensures taken { (fed : List ℕ) (items : List Item)
-            → IsAt primary.now number fed items self.old.framer self.old.place self.old.rects.items
-            → TakesAll primary.now number fed result self.new.framer self.new.place self.new.rects.items }
+        ensures taken { (fed : List ℕ) (items : List Item) → IsAt (sought primary.now number) fed items self.old
+            → TakesAll (sought primary.now number) fed result self.new }
     {
         loop {
             match self.step(primary, number)? {
@@ -85,9 +83,8 @@ impl Reader {
 
     // Takes the next record, if it is whole.
     fn step(&mut self, primary: &[u8], number: u16) -> Result<Step, AllocError>
-        ensures taken { (fed : List ℕ) (items : List Item)
-            → IsAt primary.now number fed items self.old.framer self.old.place self.old.rects.items
-            → Steps primary.now number fed result self.new.framer self.new.place self.new.rects.items }
+        ensures taken { (fed : List ℕ) (items : List Item) → IsAt (sought primary.now number) fed items self.old
+            → Steps (sought primary.now number) fed result self.new }
         ensures reads_none { result ≢ Ok (Step.Stopped Stop.ReadFault) }
         ensures less { result ≡ Ok Step.Taken → length self.new.framer.left < length self.old.framer.left }
     {
@@ -115,20 +112,20 @@ impl Reader {
     // not stand here.
     fn accept(&mut self, taken: &Record, primary: &[u8], number: u16) -> Result<bool, AllocError>
         ensures framer { self.new.framer ≡ self.old.framer }
-        ensures stands { IfOk result (λ stood. IsTrue stood → Stands primary.now self.old.place (item_of taken.now)) }
-        ensures place { IfOk result (λ stood. IsTrue stood → self.new.place ≡ following self.old.place (item_of taken.now)) }
+        ensures stands { IfOk result (λ stood. IsTrue stood → Stands primary.now self.old.slot (item_of taken.now)) }
+        ensures slot { IfOk result (λ stood. IsTrue stood → self.new.slot ≡ following self.old.slot (item_of taken.now)) }
         ensures rects { IfOk result (λ stood. IsTrue stood
-            → self.new.rects.items ≡ self.old.rects.items ++ rects_on number (drawn_at self.old.place (item_of taken.now))) }
-        ensures refused { IfOk result (λ stood. stood ≡ false → Stands primary.now self.old.place (item_of taken.now) → ⊥) }
+            → self.new.rects.items ≡ self.old.rects.items ++ rects_on number (elements_at self.old.slot (item_of taken.now))) }
+        ensures refused { IfOk result (λ stood. stood ≡ false → Stands primary.now self.old.slot (item_of taken.now) → ⊥) }
         ensures same { IfOk result (λ stood. stood ≡ false → self.new ≡ self.old) }
     {
-        if !self.place.stands(taken, primary) {
+        if !self.slot.stands(taken, primary) {
             return Ok(false);
         }
-        if self.place.is_points_on(number) {
+        if self.slot.is_points_on(number) {
             self.rects.push(rect_in(&taken.body))?;
         }
-        self.place = self.place.following(taken);
+        self.slot = self.slot.following(taken);
         Ok(true)
     }
 }

@@ -1,6 +1,6 @@
 -- The short ones of the runs so far are pushed.
 use Rattle.std.proofs.Common.{◌≡◌, take}
-use Rattle.drc_cli.specs.ShortRuns.{short_of}
+use Rattle.drc_cli.specs.Working.ShortRuns.{short_of}
 use Rattle.drc_cli.proofs.short_runs.shorter_than.Given as goal
 
 abbrev pub invariant-loop-run : goal.invariant-loop-run

@@ -1,17 +1,9 @@
-use Rattle.std.proofs.Common.{inr, subst}
-use Rattle.drc_cli.specs.Command.{Check, check_of}
-use Rattle.drc_cli.specs.Run.{IsTold}
-use Rattle.drc_cli.proofs.Told.{one_check}
+use Rattle.std.proofs.Common.{map, string_bytes}
+use Rattle.drc_ports.specs.Files.{world}
+use Rattle.drc_cli.proofs.Ended.{words_refused}
 use Rattle.drc_cli.proofs.top.answer.Goals as goal
 
-pub returns-in-Some-clause-words : goal.returns-in-Some-clause-words
-returns-in-Some-clause-words g c =
-    (λ words. absurd (c.check.ensures.served words), λ refused. absurd (refused (check_of c.in-Some.command) c.in-Some.ensures.asked))
-
-pub returns-in-Some-clause-told : goal.returns-in-Some-clause-told
-returns-in-Some-clause-told g c = λ told check asks.
-    subst (λ (k : Check). IsTold k c.check.result (g.F.Files.tally c.args.files.now) (g.F.Files.tally c.check.new.files) (g.F.Files.contents c.args.files.now) (g.F.Files.contents c.check.new.files))
-    (one_check _ (check_of c.in-Some.command) check c.in-Some.ensures.asked asks) (c.check.ensures.told told)
-
-pub returns-in-Some-clause-asked : goal.returns-in-Some-clause-asked
-returns-in-Some-clause-asked g c = inr (check_of c.in-Some.command, c.in-Some.ensures.asked)
+pub returns-in-None : goal.returns-in-None
+returns-in-None g c = words_refused _ g.F.Files.tells c.say_all.result
+    (world (g.F.Files.tally c.args.files.now) (g.F.Files.contents c.args.files.now))
+    (world (g.F.Files.tally c.say_all.new.files) (g.F.Files.contents c.say_all.new.files)) c.in-None.ensures.refused c.say_all.ensures

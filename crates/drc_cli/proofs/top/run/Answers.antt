@@ -1,32 +1,33 @@
-use Rattle.std.proofs.Common.{◌≡◌, inl, inr, sym, subst, ◌∙◌}
-use Rattle.drc_cli.specs.declared.answer.Status.{Status}
-use Rattle.drc_cli.specs.declared.answer.Status.TheVariants.{Done, Words}
-use Rattle.drc_cli.specs.Run.{IsTold}
-use Rattle.drc_cli.proofs.Complete.{complete, deck_refused, layout_refused}
+use Rattle.drc_ports.specs.Files.{world}
+use Rattle.drc_cli.proofs.RunLaws.{says_words, must_say_words, has_results, unmade, complete, refused}
 use Rattle.drc_cli.proofs.top.run.Goals as goal
 
+pub returns-clause-words : goal.returns-clause-words
+returns-clause-words g c =
+    let old = world (g.F.Files.tally c.args.files.now) (g.F.Files.contents c.args.files.now) in
+    let new = world (g.F.Files.tally c.answer.new.files) (g.F.Files.contents c.answer.new.files) in
+    (says_words _ c.answer.result g.F.Files.tells old new c.answer.ensures, must_say_words _ c.answer.result g.F.Files.tells old new c.answer.ensures)
+
 pub returns-clause-results : goal.returns-clause-results
-returns-clause-results g c = λ told done. elim c.answer.ensures.asked [
-  | inl words ↦ let never : Done ≡ Words = sym done ∙ words in absurd cc
-  | inr asked ↦ (
-    asked.0,
-    asked.1,
-    subst (λ (s : Status). IsTold asked.0 s (g.F.Files.tally c.args.files.now) (g.F.Files.tally c.answer.new.files) (g.F.Files.contents c.args.files.now) (g.F.Files.contents c.answer.new.files))
-        done (c.answer.ensures.told told asked.0 asked.1),
-  )
-]
+returns-clause-results g c = λ told done.
+    let old = world (g.F.Files.tally c.args.files.now) (g.F.Files.contents c.args.files.now) in
+    let new = world (g.F.Files.tally c.answer.new.files) (g.F.Files.contents c.answer.new.files) in
+    has_results _ c.answer.result g.F.Files.tells old new told done c.answer.ensures
+
+pub returns-clause-unmade : goal.returns-clause-unmade
+returns-clause-unmade g c = λ refusal.
+    let old = world (g.F.Files.tally c.args.files.now) (g.F.Files.contents c.args.files.now) in
+    let new = world (g.F.Files.tally c.answer.new.files) (g.F.Files.contents c.answer.new.files) in
+    unmade _ c.answer.result g.F.Files.tells old new c.answer.ensures refusal
 
 pub returns-clause-complete : goal.returns-clause-complete
-returns-clause-complete g c = λ told check asks d has rects layout none.
-    complete check (g.F.Files.tally c.args.files.now) (g.F.Files.tally c.answer.new.files) (g.F.Files.contents c.args.files.now) (g.F.Files.contents c.answer.new.files) c.answer.result
-    (c.answer.ensures.counts check asks) (c.answer.ensures.told told check asks) d has rects layout none
+returns-clause-complete g c = λ told outcome due none.
+    let old = world (g.F.Files.tally c.args.files.now) (g.F.Files.contents c.args.files.now) in
+    let new = world (g.F.Files.tally c.answer.new.files) (g.F.Files.contents c.answer.new.files) in
+    complete _ c.answer.result g.F.Files.tells old new told c.answer.ensures outcome due none
 
-pub returns-clause-deck_refused : goal.returns-clause-deck_refused
-returns-clause-deck_refused g c = λ told check asks refusal refuses none.
-    deck_refused check (g.F.Files.tally c.args.files.now) (g.F.Files.tally c.answer.new.files) (g.F.Files.contents c.args.files.now) (g.F.Files.contents c.answer.new.files) c.answer.result
-    (c.answer.ensures.counts check asks) (c.answer.ensures.told told check asks) refusal refuses none
-
-pub returns-clause-layout_refused : goal.returns-clause-layout_refused
-returns-clause-layout_refused g c = λ told check asks refusal refuses none.
-    layout_refused check (g.F.Files.tally c.args.files.now) (g.F.Files.tally c.answer.new.files) (g.F.Files.contents c.args.files.now) (g.F.Files.contents c.answer.new.files) c.answer.result
-    (c.answer.ensures.counts check asks) (c.answer.ensures.told told check asks) refusal refuses none
+pub returns-clause-refused : goal.returns-clause-refused
+returns-clause-refused g c = λ told outcome due refusal none.
+    let old = world (g.F.Files.tally c.args.files.now) (g.F.Files.contents c.args.files.now) in
+    let new = world (g.F.Files.tally c.answer.new.files) (g.F.Files.contents c.answer.new.files) in
+    refused _ c.answer.result g.F.Files.tells old new told c.answer.ensures outcome due refusal none

@@ -1,4 +1,5 @@
-use Rattle.edge_form.proofs.Spaced.{units_permuted, edge_set_from_spaced}
+use Rattle.drc_geom.proofs.RunUnits.{units_permuted}
+use Rattle.edge_form.proofs.Spaced.{edge_set_from_spaced}
 use Rattle.edge_form.proofs.gathering.sort_by_run_order.Goals as goal
 
 pub returns : goal.returns
@@ -6,5 +7,5 @@ returns c =
     let s = c.sort_unstable.ensures in
     record {
       form = edge_set_from_spaced _ _ c.requires.not_empty c.requires.spaced s.permutation s.sorted;
-      units = λ x y side. units_permuted _ _ x y side s.permutation;
+      units = units_permuted _ _ s.permutation;
     }

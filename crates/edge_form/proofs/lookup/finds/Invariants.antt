@@ -1,5 +1,5 @@
 use Rattle.std.proofs.Common.{◌≡◌, drop}
-use Rattle.edge_form.specs.Edges.{units_of}
+use Rattle.drc_geom.specs.Runs.{units_of}
 use Rattle.edge_form.proofs.lookup.finds.Given as goal
 
 abbrev pub invariant-loop-run : goal.invariant-loop-run

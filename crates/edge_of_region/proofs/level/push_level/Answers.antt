@@ -1,5 +1,5 @@
 use Rattle.std.proofs.lemmas.Int.{to_z-of_z}
-use Rattle.edge_of_region.proofs.Pieces.{level_laid}
+use Rattle.edge_of_region.proofs.RunLists.{level_laid}
 use Rattle.edge_of_region.proofs.level.push_level.Goals as goal
 
 pub returns : goal.returns

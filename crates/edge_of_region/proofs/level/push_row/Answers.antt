@@ -1,5 +1,5 @@
 use Rattle.std.proofs.lemmas.Int.{to_z-of_z}
-use Rattle.edge_of_region.proofs.Pieces.{row_laid}
+use Rattle.edge_of_region.proofs.RunLists.{row_laid}
 use Rattle.edge_of_region.proofs.level.push_row.Goals as goal
 
 pub returns : goal.returns

@@ -1,5 +1,5 @@
 use Rattle.std.proofs.Common.{◌≡◌, ◌++◌, take}
-use Rattle.edge_of_region.specs.Levels.{laid}
+use Rattle.edge_of_region.specs.Working.Levels.{laid}
 use Rattle.edge_of_region.proofs.level.push_spans.Given as goal
 
 abbrev pub invariant-loop-span : goal.invariant-loop-span

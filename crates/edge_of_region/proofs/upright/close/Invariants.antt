@@ -1,5 +1,5 @@
 use Rattle.std.proofs.Common.{◌≡◌, ◌++◌, take}
-use Rattle.edge_of_region.specs.Uprights.{closed}
+use Rattle.edge_of_region.specs.Working.Uprights.{closed}
 use Rattle.edge_of_region.proofs.upright.close.Given as goal
 
 abbrev pub invariant-loop-standing : goal.invariant-loop-standing

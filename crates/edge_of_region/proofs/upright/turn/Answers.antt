@@ -1,12 +1,12 @@
-use Rattle.std.proofs.Common.{rules, ◌≡◌, ◌++◌, length, take, drop, get_or, ◌-◌, ◌<◌, subst, pos, to_z, of_z, arith}
+use Rattle.std.proofs.Common.{rules, ◌≡◌, ◌++◌, length, take, drop, get_or, ◌-◌, ◌<◌, subst, pos, to_z, of_z, arith, ◌<ℤ◌}
 use Rattle.std.proofs.lemmas.Int.{to_z-of_z}
 use Rattle.std.proofs.lemmas.List.{take_more, take_all, take_rest}
+use Rattle.list_facts.proofs.Members.{all_drop}
 use mir.Syntax.{w64}
 use mir.Val.{SFits}
 use Rattle.interval_row.specs.declared.span.Span.{Span}
-use Rattle.edge_of_region.specs.Uprights.{GoesOn, closed}
+use Rattle.edge_of_region.specs.Working.Uprights.{GoesOn, closed}
 use Rattle.edge_of_region.proofs.Turning.{IsTurning, turning_step, turning_end}
-use Rattle.edge_of_region.proofs.Sides.{began_drop}
 use Rattle.edge_of_region.proofs.upright.turn.Goals as goal
 
 pub loop-span-preserved : goal.loop-span-preserved
@@ -41,4 +41,4 @@ returns c =
     let e : take c.loop-span.span-index spans ≡ spans = take_all c.loop-span.span-index spans (omega arith) in
     let t = simp to_z-of_z at c.loop-span.invariant.turning in
     let t1 = subst (λ v. IsTurning c.args.side c.args.line v c.args.pieces.now.items sides c.loop-span.pieces.items (drop at sides) c.loop-span.turned.items) e t in
-    rw (← c.list-spans.ensures.spans) (turning_end c.args.side c.args.line _ _ _ _ _ (drop at sides) _ c.list-spans.ensures.row (began_drop c.args.line at sides c.requires) is t1)
+    rw (← c.list-spans.ensures.spans) (turning_end c.args.side c.args.line _ _ _ _ _ (drop at sides) _ c.list-spans.ensures.row (all_drop (λ side. side.lo <ℤ c.args.line) at sides c.requires) is t1)

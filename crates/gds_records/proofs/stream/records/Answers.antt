@@ -1,7 +1,7 @@
 use Rattle.std.proofs.Common.{◌+◌, map}
 use Rattle.std.proofs.lemmas.Result.{err_from_is_err_and}
 use Rattle.gds_records.specs.Stream.{item_of}
-use Rattle.gds_records.proofs.Pieces.{taken-piece, taken-all, refused-early, is_library, library-only, truncated-at_end}
+use Rattle.gds_records.proofs.Taking.{taken-piece, taken-all, refused-early, is_library, library-only, truncated-at_end}
 use Rattle.gds_records.proofs.stream.records.Goals as goal
 
 pub returns-in_err-take_whole-clause-refused : goal.returns-in_err-take_whole-clause-refused

@@ -1,7 +1,7 @@
 use Rattle.std.proofs.Common.{map, take}
 use Rattle.std.specs.List.{flat_map}
 use Rattle.gds_records.specs.Stream.{item_of}
-use Rattle.gds_records.specs.Pieces.{HasTaken, IsDry}
+use Rattle.gds_records.specs.Working.Taking.{HasTaken, IsDry}
 use Rattle.gds_records.proofs.stream.records.Given as goal
 
 abbrev pub invariant-loop-piece : goal.invariant-loop-piece

@@ -1,7 +1,7 @@
 use Rattle.std.proofs.Common.{◌≡◌, [], ◌∷◌, ◌++◌, map}
 use Rattle.std.proofs.lemmas.List.{map_push}
 use Rattle.gds_records.specs.Stream.{item_of}
-use Rattle.gds_records.proofs.Pieces.{taken-next}
+use Rattle.gds_records.proofs.Taking.{taken-next}
 use Rattle.gds_records.proofs.stream.take_whole.Goals as goal
 
 pub loop-record-preserved : goal.loop-record-preserved

@@ -1,6 +1,6 @@
 use Rattle.std.proofs.Common.{ℕ, List, length, map}
 use Rattle.gds_records.specs.Stream.{item_of}
-use Rattle.gds_records.specs.Pieces.{HasTaken}
+use Rattle.gds_records.specs.Working.Taking.{HasTaken}
 use Rattle.gds_records.proofs.stream.take_whole.Given as goal
 
 abbrev pub invariant-loop-record : goal.invariant-loop-record

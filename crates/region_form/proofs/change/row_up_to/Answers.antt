@@ -5,7 +5,7 @@ use mir.Val.{SFits}
 use Rattle.interval_row.specs.Rows.{StandsBehind}
 use Rattle.interval_row.proofs.Splits.{row_right, behind_cut}
 use Rattle.region_form.specs.declared.flip.Flip.{Flip}
-use Rattle.region_form.specs.Changes.{spans_up_to}
+use Rattle.region_form.specs.Working.Changes.{spans_up_to}
 use Rattle.region_form.proofs.Changes.{span_of, next_span, next_span_row}
 use Rattle.region_form.proofs.change.row_up_to.Goals as goal
 

@@ -1,5 +1,5 @@
 use Rattle.std.proofs.Common.{◌≡◌, drop, ◌++◌}
-use Rattle.region_form.specs.Changes.{spans_up_to}
+use Rattle.region_form.specs.Working.Changes.{spans_up_to}
 use Rattle.region_form.proofs.change.row_up_to.Given as goal
 
 abbrev pub invariant-loop-flip : goal.invariant-loop-flip

@@ -1,5 +1,5 @@
 use Rattle.std.proofs.Common.{◌≡◌, drop}
-use Rattle.interval_row.specs.Rows.{exactly_one}
+use Rattle.list_facts.specs.EitherOr.{exactly_one}
 use Rattle.region_form.specs.Flips.{squares}
 use Rattle.region_form.proofs.region.has_square.Given as goal
 

@@ -1,6 +1,6 @@
 use Rattle.std.proofs.Common.{arith}
 use Rattle.std.proofs.lemmas.Int.{ints}
-use Rattle.region_form.proofs.Lines.{below_up}
+use Rattle.region_form.proofs.FlipLines.{below_up}
 use Rattle.region_form.proofs.tests.region_of.Goals as goal
 
 pub rise-requires : goal.rise-requires

@@ -9,7 +9,7 @@ use Rattle.drc_cli.proofs.layout.outline.coordinate.Goals as goal
 pub returns : goal.returns
 unfolding coordinate
 returns c =
-    let n = 4 * c.args.place in
+    let n = 4 * c.args.index in
     let rest = drop n c.args.body.now in
     let whole : take (length c.args.body.now - n) rest ≡ rest = take_all (length c.args.body.now - n) rest (omega (arith, length-drop n c.args.body.now)) in
     let wide = to_z-of_z w64 c.from.result (record { sfits = c.from.type_inv }) in

@@ -1,7 +1,7 @@
 use Rattle.std.proofs.Common.{◌≡◌, subst}
 use Rattle.interval_row.specs.Rows.{has}
 use Rattle.region_form.specs.Climbs.{ahead}
-use Rattle.region_form.proofs.Lines.{seen_row}
+use Rattle.region_form.proofs.FlipLines.{seen_row}
 use Rattle.region_form.proofs.climb.Climb.next_line.Goals as goal
 
 -- src/climb.rt:44:5

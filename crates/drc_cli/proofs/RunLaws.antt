@@ -1,0 +1,463 @@
+-- What follows of how a run ends.
+use Rattle.std.proofs.Common.{◌≡◌, ℕ, ◌≤◌, List, [], ◌∷◌, ◌++◌, Bool, IsTrue, Option, Some, inl, inr, ◌⊎◌, refl, sym, ap, subst, ◌∙◌, arith}
+use Rattle.std.specs.List.{AllByRecursion}
+use Rattle.drc_ports.specs.Counts.{one_more, Rose}
+use Rattle.drc_ports.specs.Files.{Tally, Contents, World, HasNow}
+use Rattle.drc_cli.specs.declared.answer.Status.{Status}
+use Rattle.drc_cli.specs.declared.answer.Status.TheVariants as status
+use Rattle.drc_cli.specs.declared.answer.Which.{Which}
+use Rattle.drc_cli.specs.declared.answer.Which.TheVariants as which
+use Rattle.drc_cli.specs.CheckMeaning.{CheckLeads, IsServed}
+use Rattle.drc_cli.specs.Command.{CheckRequest, Command, check, Asks, AsksForCheck, AreRefused}
+use Rattle.drc_cli.specs.Lines.{words_line}
+use Rattle.drc_cli.specs.Meaning.{Means, Leads, IsHeld, Due, refused_words}
+use Rattle.drc_cli.specs.Outcome.{Outcome, Step, reads, writes, says}
+use Rattle.drc_cli.specs.Run.{Ends, EndsAs, IsWhole, IsCut, IsUnsaid, IsOutOfMemory, OnlyReads, IsFaultOf, unsaid, HasResults, IsRefusal, MakesNothing, NoneFailed}
+use Rattle.drc_cli.proofs.OneOutcome.{one_outcome}
+use Rattle.drc_cli.specs.Steps.{Changes, tally_after, IsDone, AreDone, Fails, IsUnopened, IsBrokenOff, IsTried}
+
+-- ---- What steps that are done leave as it was
+
+record Keeps (tells : Bool) (old new : World) : Type 0 where
+  read_faults : new.tally.read_faults ≡ old.tally.read_faults
+  write_faults : new.tally.write_faults ≡ old.tally.write_faults
+  say_faults : new.tally.say_faults ≡ old.tally.say_faults
+  held : IsTrue tells → new.contents.held ≡ old.contents.held
+
+step_keeps : (tells : Bool) (step : Step) (old new : World) → IsDone tells step old new → Keeps tells old new
+step_keeps tells (reads file name bytes) old new done = record {
+  read_faults = ap (λ (t : Tally). t.read_faults) done.tally;
+  write_faults = ap (λ (t : Tally). t.write_faults) done.tally;
+  say_faults = ap (λ (t : Tally). t.say_faults) done.tally;
+  held = λ told. ap (λ (c : Contents). c.held) ((done.contents told).1);
+}
+step_keeps tells (writes file name text) old new done = record {
+  read_faults = ap (λ (t : Tally). t.read_faults) done.tally;
+  write_faults = ap (λ (t : Tally). t.write_faults) done.tally;
+  say_faults = ap (λ (t : Tally). t.say_faults) done.tally;
+  held = λ told. ap (λ (c : Contents). c.held) ((done.contents told).1);
+}
+step_keeps tells (says text) old new done = record {
+  read_faults = ap (λ (t : Tally). t.read_faults) done.tally;
+  write_faults = ap (λ (t : Tally). t.write_faults) done.tally;
+  say_faults = ap (λ (t : Tally). t.say_faults) done.tally;
+  held = λ told. ap (λ (c : Contents). c.held) (done.contents told);
+}
+
+steps_keep : (tells : Bool) (steps : List Step) (old new : World) → AreDone tells steps old new → Keeps tells old new
+steps_keep tells [] old new done = record {
+  read_faults = ap (λ (w : World). w.tally.read_faults) done;
+  write_faults = ap (λ (w : World). w.tally.write_faults) done;
+  say_faults = ap (λ (w : World). w.tally.say_faults) done;
+  held = λ told. ap (λ (w : World). w.contents.held) done;
+}
+steps_keep tells (step ∷ steps) old new (next, done, more) =
+    let here = step_keeps tells step old next done in
+    let there = steps_keep tells steps next new more in
+    record {
+      read_faults = there.read_faults ∙ here.read_faults;
+      write_faults = there.write_faults ∙ here.write_faults;
+      say_faults = there.say_faults ∙ here.say_faults;
+      held = λ told. there.held told ∙ here.held told;
+    }
+
+-- ---- What was read is held
+
+step_held : (tells : Bool) (step : Step) (old new : World) → IsTrue tells → IsDone tells step old new → IsHeld old.contents.held step
+step_held tells (reads file name bytes) old new told done = (done.contents told).0
+step_held tells (writes file name text) old new told done = tt
+step_held tells (says text) old new told done = tt
+
+pub reads_held : (tells : Bool) (steps : List Step) (old new : World) → IsTrue tells → AreDone tells steps old new → AllByRecursion (IsHeld old.contents.held) steps
+reads_held tells [] old new told done = tt
+reads_held tells (step ∷ steps) old new told (next, done, more) = (
+  step_held tells step old next told done,
+  subst (λ (held : List ℕ → Option (List ℕ)). AllByRecursion (IsHeld held) steps) ((step_keeps tells step old next done).held told) (reads_held tells steps next new told more),
+)
+
+-- ---- Steps that make no file
+
+MakesNone : Step → Type 0
+MakesNone (writes file name text) = ⊥
+MakesNone other = Unit {0}
+
+nothing_then : (tells : Bool) (old at new : World) → MakesNothing tells old at → MakesNothing tells at new → MakesNothing tells old new
+nothing_then tells old at new here more = record {
+  writing = more.writing ∙ here.writing;
+  write_faults = more.write_faults ∙ here.write_faults;
+  made = λ told. more.made told ∙ here.made told;
+}
+
+made_none : (tells : Bool) (step : Step) (old new : World) → MakesNone step → IsDone tells step old new → MakesNothing tells old new
+unfolding MakesNone
+made_none tells (reads file name bytes) old new none done = record {
+  writing = ap (λ (t : Tally). t.writing) done.tally;
+  write_faults = ap (λ (t : Tally). t.write_faults) done.tally;
+  made = λ told. ap (λ (c : Contents). c.made) ((done.contents told).1);
+}
+made_none tells (writes file name text) old new none done = absurd none
+made_none tells (says text) old new none done = record {
+  writing = ap (λ (t : Tally). t.writing) done.tally;
+  write_faults = ap (λ (t : Tally). t.write_faults) done.tally;
+  made = λ told. ap (λ (c : Contents). c.made) (done.contents told);
+}
+
+made_none_failed : (tells : Bool) (step : Step) (old new : World) → MakesNone step → Fails tells step old new → MakesNothing tells old new
+unfolding MakesNone
+made_none_failed tells (reads file name bytes) old new none (inl unopened) = record {
+  writing = ap (λ (t : Tally). t.writing) unopened.tally;
+  write_faults = ap (λ (t : Tally). t.write_faults) unopened.tally;
+  made = λ told. ap (λ (c : Contents). c.made) (unopened.contents told);
+}
+made_none_failed tells (reads file name bytes) old new none (inr broken) = record {
+  writing = ap (λ (t : Tally). t.writing) broken.tally;
+  write_faults = ap (λ (t : Tally). t.write_faults) broken.tally;
+  made = λ told. ap (λ (c : Contents). c.made) (broken.contents told);
+}
+made_none_failed tells (writes file name text) old new none fails = absurd none
+made_none_failed tells (says text) old new none (inl unopened) = absurd unopened.tally
+made_none_failed tells (says text) old new none (inr broken) = record {
+  writing = ap (λ (t : Tally). t.writing) broken.tally;
+  write_faults = ap (λ (t : Tally). t.write_faults) broken.tally;
+  made = λ told. ap (λ (c : Contents). c.made) ((broken.contents told).2);
+}
+
+made_none_tried : (tells : Bool) (step : Step) (old new : World) → MakesNone step → IsTried tells step old new → MakesNothing tells old new
+made_none_tried tells step old new none (inl done) = made_none tells step old new none done
+made_none_tried tells step old new none (inr fails) = made_none_failed tells step old new none fails
+
+none_made : (tells : Bool) (steps : List Step) (old new : World) → AllByRecursion MakesNone steps → AreDone tells steps old new → MakesNothing tells old new
+none_made tells [] old new none done = record {
+  writing = ap (λ (w : World). w.tally.writing) done;
+  write_faults = ap (λ (w : World). w.tally.write_faults) done;
+  made = λ told. ap (λ (w : World). w.contents.made) done;
+}
+none_made tells (step ∷ steps) old new none (next, done, more) =
+    nothing_then tells old next new (made_none tells step old next none.0 done) (none_made tells steps next new none.1 more)
+
+-- ---- The steps of an outcome: what is read comes first
+
+IsNoRead : Step → Type 0
+IsNoRead (reads file name bytes) = ⊥
+IsNoRead other = Unit {0}
+
+ReadsFirst : List Step → Type 0
+ReadsFirst [] = Unit {0}
+ReadsFirst (reads file name bytes ∷ steps) = ReadsFirst steps
+ReadsFirst (writes file name text ∷ steps) = AllByRecursion IsNoRead steps
+ReadsFirst (says text ∷ steps) = AllByRecursion IsNoRead steps
+
+all_front : (P : Step → Type 0) (first last : List Step) → AllByRecursion P (first ++ last) → AllByRecursion P first
+all_front P [] last all = tt
+all_front P (step ∷ first) last all = (all.0, all_front P first last all.1)
+
+all_back : (P : Step → Type 0) (first last : List Step) → AllByRecursion P (first ++ last) → AllByRecursion P last
+all_back P [] last all = all
+all_back P (step ∷ first) last all = all_back P first last all.1
+
+all_both : (P : Step → Type 0) (first last : List Step) → AllByRecursion P first → AllByRecursion P last → AllByRecursion P (first ++ last)
+all_both P [] last p q = q
+all_both P (step ∷ first) last p q = (p.0, all_both P first last p.1 q)
+
+no_read_behind : (before behind : List Step) (file : Which) (name bytes : List ℕ) → AllByRecursion IsNoRead (before ++ reads file name bytes ∷ behind) → ⊥
+unfolding IsNoRead
+no_read_behind before behind file name bytes all = (all_back IsNoRead before (reads file name bytes ∷ behind) all).0
+
+none_before_read : (before behind : List Step) (file : Which) (name bytes : List ℕ) → ReadsFirst (before ++ reads file name bytes ∷ behind) → AllByRecursion MakesNone before
+unfolding ReadsFirst MakesNone
+none_before_read [] behind file name bytes first = tt
+none_before_read (reads f n b ∷ before) behind file name bytes first = (tt, none_before_read before behind file name bytes first)
+none_before_read (writes f n t ∷ before) behind file name bytes first = absurd (no_read_behind before behind file name bytes first)
+none_before_read (says t ∷ before) behind file name bytes first = absurd (no_read_behind before behind file name bytes first)
+
+no_read_behind_write : (before behind : List Step) (file : Which) (name text : List ℕ) → ReadsFirst (before ++ writes file name text ∷ behind) → AllByRecursion IsNoRead behind
+unfolding ReadsFirst
+no_read_behind_write [] behind file name text first = first
+no_read_behind_write (reads f n b ∷ before) behind file name text first = no_read_behind_write before behind file name text first
+no_read_behind_write (writes f n t ∷ before) behind file name text first = (all_back IsNoRead before (writes file name text ∷ behind) first).1
+no_read_behind_write (says t ∷ before) behind file name text first = (all_back IsNoRead before (writes file name text ∷ behind) first).1
+
+held_without_reads : (held : List ℕ → Option (List ℕ)) (steps : List Step) → AllByRecursion IsNoRead steps → AllByRecursion (IsHeld held) steps
+unfolding IsNoRead
+held_without_reads held [] all = tt
+held_without_reads held (reads f n b ∷ steps) all = absurd all.0
+held_without_reads held (writes f n t ∷ steps) all = (tt, held_without_reads held steps all.1)
+held_without_reads held (says t ∷ steps) all = (tt, held_without_reads held steps all.1)
+
+check_reads_first : (request : CheckRequest) (outcome : Outcome) → CheckLeads request outcome → ReadsFirst outcome.steps
+unfolding ReadsFirst IsNoRead
+check_reads_first request outcome (inl served) = subst (λ (s : List Step). ReadsFirst s) (sym served.steps_are) (tt, tt)
+check_reads_first request outcome (inr (inl refused)) = subst (λ (s : List Step). ReadsFirst s) (sym refused.steps_are) tt
+check_reads_first request outcome (inr (inr refused)) = subst (λ (s : List Step). ReadsFirst s) (sym refused.steps_are) tt
+
+reads_first : (words : List (List ℕ)) (outcome : Outcome) → Means words outcome → ReadsFirst outcome.steps
+unfolding ReadsFirst IsNoRead
+reads_first words outcome (inl (check request, asks, leads)) = check_reads_first request outcome leads
+reads_first words outcome (inr (nothing, is)) = subst (λ (o : Outcome). ReadsFirst o.steps) (sym is) tt
+
+-- ---- Refusals make no file
+
+-- an outcome that is a refusal makes no file
+check_refusal_makes_none : (request : CheckRequest) (outcome : Outcome) → CheckLeads request outcome → (outcome.status ≡ status.Done → ⊥) → AllByRecursion MakesNone outcome.steps
+unfolding MakesNone
+check_refusal_makes_none request outcome (inl served) undone = absurd (undone served.status_is)
+check_refusal_makes_none request outcome (inr (inl refused)) undone = subst (λ (s : List Step). AllByRecursion MakesNone s) (sym refused.steps_are) (tt, (tt, tt))
+check_refusal_makes_none request outcome (inr (inr refused)) undone = subst (λ (s : List Step). AllByRecursion MakesNone s) (sym refused.steps_are) (tt, (tt, (tt, tt)))
+
+refusal_makes_none : (words : List (List ℕ)) (outcome : Outcome) → Means words outcome → (outcome.status ≡ status.Done → ⊥) → AllByRecursion MakesNone outcome.steps
+unfolding MakesNone
+refusal_makes_none words outcome (inl (check request, asks, leads)) undone = check_refusal_makes_none request outcome leads undone
+refusal_makes_none words outcome (inr (nothing, is)) undone = subst (λ (o : Outcome). AllByRecursion MakesNone o.steps) (sym is) (tt, tt)
+
+not_done : (answer other : Status) → IsRefusal answer → answer ≡ other → other ≡ status.Done → ⊥
+not_done answer other refusal same done = subst (λ (s : Status). IsRefusal s) (same ∙ done) refusal
+
+unsaid_not_done : (answer other : Status) → IsRefusal answer → answer ≡ unsaid other → other ≡ status.Done → ⊥
+unsaid_not_done answer other refusal same done = subst (λ (s : Status). IsRefusal s) (same ∙ ap (λ (s : Status). unsaid s) done) refusal
+
+cut_unmade : (words : List (List ℕ)) (outcome : Outcome) (answer : Status) (tells : Bool) (old new : World) → Means words outcome → IsCut outcome answer tells old new → IsRefusal answer → MakesNothing tells old new
+unfolding MakesNone
+cut_unmade words outcome answer tells old new means cut refusal = at_step cut.step cut.steps cut.fails cut.fault where
+  at_step : (step : Step) → outcome.steps ≡ cut.before ++ step ∷ cut.behind → Fails tells step cut.at cut.failed → IsFaultOf step answer cut.line → MakesNothing tells old new
+  at_step (reads file name bytes) steps fails fault =
+      nothing_then tells old cut.at new
+      (none_made tells cut.before old cut.at (none_before_read cut.before cut.behind file name bytes (subst (λ (s : List Step). ReadsFirst s) steps (reads_first words outcome means))) cut.done)
+      (nothing_then tells cut.at cut.failed new (made_none_failed tells (reads file name bytes) cut.at cut.failed tt fails) (made_none_tried tells (says cut.line) cut.failed new tt cut.said))
+  at_step (writes file name text) steps fails fault = absurd (subst (λ (s : Status). IsRefusal s) fault.0 refusal)
+  at_step (says text) steps fails fault = absurd fault
+
+ends_unmade : (words : List (List ℕ)) (outcome : Outcome) (answer : Status) (tells : Bool) (old new : World) → Means words outcome → EndsAs outcome answer tells old new → IsRefusal answer → MakesNothing tells old new
+unfolding MakesNone
+ends_unmade words outcome answer tells old new means (inl whole) refusal =
+    none_made tells outcome.steps old new (refusal_makes_none words outcome means (not_done answer outcome.status refusal whole.status_is)) whole.done
+ends_unmade words outcome answer tells old new means (inr (inl cut)) refusal = cut_unmade words outcome answer tells old new means cut refusal
+ends_unmade words outcome answer tells old new means (inr (inr part)) refusal =
+    let none = refusal_makes_none words outcome means (unsaid_not_done answer outcome.status refusal part.status_is) in
+    let front = all_front MakesNone part.before (says part.text ∷ []) (subst (λ (s : List Step). AllByRecursion MakesNone s) part.steps none) in
+    nothing_then tells old part.at new (none_made tells part.before old part.at front part.done) (made_none_failed tells (says part.text) part.at new tt part.fails)
+
+pub unmade : (words : List (List ℕ)) (answer : Status) (tells : Bool) (old new : World) → Ends words answer tells old new → IsRefusal answer → MakesNothing tells old new
+unfolding MakesNone
+unmade words answer tells old new (inl (outcome, means, ends)) refusal = ends_unmade words outcome answer tells old new means ends refusal
+unmade words answer tells old new (inr (command, asks, memory)) refusal =
+    nothing_then tells old memory.at new
+    (record { writing = memory.read.writing; write_faults = memory.read.write_faults; made = λ told. ap (λ (c : Contents). c.made) (memory.read.contents told) })
+    (made_none_tried tells (says _) memory.at new tt memory.said)
+
+-- ---- Words
+
+never_words : (request : CheckRequest) (outcome : Outcome) (answer : Status) (tells : Bool) (old new : World) → CheckLeads request outcome → EndsAs outcome answer tells old new → answer ≡ status.Words → ⊥
+never_words request outcome answer tells old new leads (inl whole) words = elim leads [
+  | inl served ↦ let never : status.Done ≡ status.Words = sym served.status_is ∙ sym whole.status_is ∙ words in cc
+  | inr refused ↦ elim refused [
+    | inl deck ↦ let never = sym deck.status_is ∙ sym whole.status_is ∙ words in cc
+    | inr layout ↦ let never = sym layout.status_is ∙ sym whole.status_is ∙ words in cc
+  ]
+]
+never_words request outcome answer tells old new leads (inr (inl cut)) words = by_step cut.step cut.fault where
+  by_step : (step : Step) → IsFaultOf step answer cut.line → ⊥
+  by_step (reads file name bytes) fault = let never = sym fault.0 ∙ words in cc
+  by_step (writes file name text) fault = let never = sym fault.0 ∙ words in cc
+  by_step (says text) fault = fault
+never_words request outcome answer tells old new leads (inr (inr part)) words = elim leads [
+  | inl served ↦ let never : unsaid status.Done ≡ status.Words = ap (λ (s : Status). unsaid s) (sym served.status_is) ∙ sym part.status_is ∙ words in cc
+  | inr refused ↦ elim refused [
+    | inl deck ↦ let never = ap (λ (s : Status). unsaid s) (sym deck.status_is) ∙ sym part.status_is ∙ words in cc
+    | inr layout ↦ let never = ap (λ (s : Status). unsaid s) (sym layout.status_is) ∙ sym part.status_is ∙ words in cc
+  ]
+]
+
+pub says_words : (words : List (List ℕ)) (answer : Status) (tells : Bool) (old new : World) → Ends words answer tells old new → answer ≡ status.Words → AreRefused words
+says_words words answer tells old new (inl (outcome, inl (check request, asks, leads), ends)) is = absurd (never_words request outcome answer tells old new leads ends is)
+says_words words answer tells old new (inl (outcome, inr (nothing, same), ends)) is = nothing
+says_words words answer tells old new (inr (command, asks, memory)) is = let never : status.NoMemory ≡ status.Words = sym memory.status_is ∙ is in absurd cc
+
+refused_alone : (outcome : Outcome) (answer : Status) (tells : Bool) (old new : World) → outcome ≡ refused_words → EndsAs outcome answer tells old new → answer ≡ status.Words
+refused_alone outcome answer tells old new same (inl whole) = whole.status_is ∙ ap (λ (o : Outcome). o.status) same
+refused_alone outcome answer tells old new same (inr (inl cut)) = absurd (nowhere cut.before cut.step cut.fault (sym (ap (λ (o : Outcome). o.steps) same) ∙ cut.steps)) where
+  nowhere : (before : List Step) (step : Step) → IsFaultOf step answer cut.line → says words_line ∷ [] ≡ before ++ step ∷ cut.behind → ⊥
+  nowhere [] (reads f n b) fault e = cc
+  nowhere [] (writes f n t) fault e = cc
+  nowhere [] (says t) fault e = fault
+  nowhere (a ∷ []) step fault e = cc
+  nowhere (a ∷ b ∷ before) step fault e = cc
+refused_alone outcome answer tells old new same (inr (inr part)) = part.status_is ∙ ap (λ (o : Outcome). unsaid o.status) same
+
+pub must_say_words : (words : List (List ℕ)) (answer : Status) (tells : Bool) (old new : World) → Ends words answer tells old new → AreRefused words → answer ≡ status.Words
+must_say_words words answer tells old new (inl (outcome, inl (command, asks, leads), ends)) nothing = absurd (nothing command asks)
+must_say_words words answer tells old new (inl (outcome, inr (none, same), ends)) nothing = refused_alone outcome answer tells old new same ends
+must_say_words words answer tells old new (inr (command, asks, memory)) nothing = absurd (nothing command asks)
+
+-- ---- Results
+
+served_results : (request : CheckRequest) (outcome : Outcome) (tells : Bool) (old new : World) → IsTrue tells → (served : IsServed request outcome)
+    → AreDone tells (reads which.Deck request.deck served.deck ∷ reads which.Layout served.d.layout served.bytes ∷ writes which.Results served.d.results served.text ∷ says served.line ∷ []) old new
+    → HasResults request old.contents new.contents
+served_results request outcome tells old new told served (a, deck_read, (b, layout_read, (c, written, (e, said, end)))) =
+    let deck_held = deck_read.contents told in
+    let layout_held = layout_read.contents told in
+    let made = written.contents told in
+    let line = said.contents told in
+    let made_before : b.contents.made ≡ old.contents.made = ap (λ (x : Contents). x.made) layout_held.1 ∙ ap (λ (x : Contents). x.made) deck_held.1 in
+    let made_after : new.contents.made ≡ c.contents.made = ap (λ (w : World). w.contents.made) end ∙ ap (λ (x : Contents). x.made) line in
+    let said_before : c.contents.said ≡ old.contents.said =
+    ap (λ (x : Contents). x.said) made.1 ∙ ap (λ (x : Contents). x.said) layout_held.1 ∙ ap (λ (x : Contents). x.said) deck_held.1 in
+    record {
+      deck = served.deck;
+      d = served.d;
+      bytes = served.bytes;
+      text = served.text;
+      line = served.line;
+      deck_held = deck_held.0;
+      spelled = served.spelled;
+      layout_held = ap (λ (x : Contents). x.held served.d.layout) (sym deck_held.1) ∙ layout_held.0;
+      reports = served.reports;
+      made = subst (λ (m : List ℕ → Option (List ℕ)). HasNow served.d.results served.text m new.contents.made) made_before
+          (subst (λ (m : List ℕ → Option (List ℕ)). HasNow served.d.results served.text b.contents.made m) (sym made_after) made.0);
+      said = ap (λ (w : World). w.contents.said) end ∙ ap (λ (x : Contents). x.said) line ∙ ap (λ (t : List ℕ). t ++ served.line) said_before;
+    }
+
+done_results : (request : CheckRequest) (outcome : Outcome) (answer : Status) (tells : Bool) (old new : World) → IsTrue tells → answer ≡ status.Done → CheckLeads request outcome
+    → EndsAs outcome answer tells old new → HasResults request old.contents new.contents
+done_results request outcome answer tells old new told done (inl served) (inl whole) =
+    served_results request outcome tells old new told served (subst (λ (s : List Step). AreDone tells s old new) served.steps_are whole.done)
+done_results request outcome answer tells old new told done (inr (inl deck)) (inl whole) = let never = sym done ∙ whole.status_is ∙ deck.status_is in absurd cc
+done_results request outcome answer tells old new told done (inr (inr layout)) (inl whole) = let never = sym done ∙ whole.status_is ∙ layout.status_is in absurd cc
+done_results request outcome answer tells old new told done leads (inr (inl cut)) = absurd (by_step cut.step cut.fault) where
+  by_step : (step : Step) → IsFaultOf step answer cut.line → ⊥
+  by_step (reads file name bytes) fault = let never = sym fault.0 ∙ done in cc
+  by_step (writes file name text) fault = let never = sym fault.0 ∙ done in cc
+  by_step (says text) fault = fault
+done_results request outcome answer tells old new told done (inl served) (inr (inr part)) = let never = sym done ∙ part.status_is ∙ ap (λ (s : Status). unsaid s) served.status_is in absurd cc
+done_results request outcome answer tells old new told done (inr (inl deck)) (inr (inr part)) = let never = sym done ∙ part.status_is ∙ ap (λ (s : Status). unsaid s) deck.status_is in absurd cc
+done_results request outcome answer tells old new told done (inr (inr layout)) (inr (inr part)) = let never = sym done ∙ part.status_is ∙ ap (λ (s : Status). unsaid s) layout.status_is in absurd cc
+
+pub has_results : (words : List (List ℕ)) (answer : Status) (tells : Bool) (old new : World) → IsTrue tells → answer ≡ status.Done → Ends words answer tells old new
+    → (request : CheckRequest) × AsksForCheck words request × HasResults request old.contents new.contents
+has_results words answer tells old new told done (inl (outcome, inl (check request, asks, leads), ends)) =
+    (request, asks, done_results request outcome answer tells old new told done leads ends)
+has_results words answer tells old new told done (inl (outcome, inr (nothing, same), ends)) =
+    let never : status.Done ≡ status.Words = sym done ∙ refused_alone outcome answer tells old new same ends in absurd cc
+has_results words answer tells old new told done (inr (command, asks, memory)) = let never : status.Done ≡ status.NoMemory = sym done ∙ memory.status_is in absurd cc
+
+-- ---- Which outcome it is that a run ends with
+
+rose : (before now : ℕ) → now ≡ one_more before → Rose before now
+rose before now e = omega (arith, e)
+
+-- a text that is tried counts no failure to read or to write
+record SameFaults (old new : World) : Type 0 where
+  reads : new.tally.read_faults ≡ old.tally.read_faults
+  writes : new.tally.write_faults ≡ old.tally.write_faults
+
+say_counts : (tells : Bool) (text : List ℕ) (old new : World) → IsTried tells (says text) old new → SameFaults old new
+say_counts tells text old new (inl done) = record { reads = ap (λ (t : Tally). t.read_faults) done.tally; writes = ap (λ (t : Tally). t.write_faults) done.tally }
+say_counts tells text old new (inr (inl unopened)) = absurd unopened.tally
+say_counts tells text old new (inr (inr broken)) = record { reads = ap (λ (t : Tally). t.read_faults) broken.tally; writes = ap (λ (t : Tally). t.write_faults) broken.tally }
+
+read_fails : (tells : Bool) (file : Which) (name bytes : List ℕ) (old new : World) → Fails tells (reads file name bytes) old new → new.tally.read_faults ≡ one_more old.tally.read_faults
+read_fails tells file name bytes old new (inl unopened) = ap (λ (t : Tally). t.read_faults) unopened.tally
+read_fails tells file name bytes old new (inr broken) = ap (λ (t : Tally). t.read_faults) broken.tally
+
+write_fails : (tells : Bool) (file : Which) (name text : List ℕ) (old new : World) → Fails tells (writes file name text) old new → new.tally.write_faults ≡ one_more old.tally.write_faults
+write_fails tells file name text old new (inl unopened) = ap (λ (t : Tally). t.write_faults) unopened.tally
+write_fails tells file name text old new (inr broken) = ap (λ (t : Tally). t.write_faults) broken.tally
+
+say_fails : (tells : Bool) (text : List ℕ) (old new : World) → Fails tells (says text) old new → new.tally.say_faults ≡ one_more old.tally.say_faults
+say_fails tells text old new (inl unopened) = absurd unopened.tally
+say_fails tells text old new (inr broken) = ap (λ (t : Tally). t.say_faults) broken.tally
+
+-- a file that is written is among the steps
+record HasWrite (steps : List Step) : Type 0 where
+  file : Which
+  name : List ℕ
+  text : List ℕ
+  before : List Step
+  behind : List Step
+  are : steps ≡ before ++ writes file name text ∷ behind
+
+module _ (words : List (List ℕ)) (outcome : Outcome) (answer : Status) (tells : Bool) (old new : World) (told : IsTrue tells) (means : Means words outcome) where
+  -- the step at which a run was cut is a file that is written, if no read failed
+  cut_is_due : IsCut outcome answer tells old new → (Rose old.tally.read_faults new.tally.read_faults → ⊥) → Due old.contents.held words outcome × Rose old.tally.write_faults new.tally.write_faults × HasWrite outcome.steps
+  cut_is_due cut none = at_step cut.step cut.steps cut.fails cut.fault where
+    kept : Keeps tells old cut.at
+    kept = steps_keep tells cut.before old cut.at cut.done
+
+    at_step : (step : Step) → outcome.steps ≡ cut.before ++ step ∷ cut.behind → Fails tells step cut.at cut.failed → IsFaultOf step answer cut.line
+        → Due old.contents.held words outcome × Rose old.tally.write_faults new.tally.write_faults × HasWrite outcome.steps
+    at_step (reads file name bytes) steps fails fault = absurd (none (rose old.tally.read_faults new.tally.read_faults
+        ((say_counts tells cut.line cut.failed new cut.said).reads ∙ read_fails tells file name bytes cut.at cut.failed fails ∙ ap (λ (n : ℕ). one_more n) kept.read_faults)))
+    at_step (writes file name text) steps fails fault = (
+      record {
+        meant = means;
+        reads_held = subst (λ (s : List Step). AllByRecursion (IsHeld old.contents.held) s) (sym steps)
+            (all_both (IsHeld old.contents.held) cut.before (writes file name text ∷ cut.behind) (reads_held tells cut.before old cut.at told cut.done) (
+              tt,
+              held_without_reads old.contents.held cut.behind
+                  (no_read_behind_write cut.before cut.behind file name text (subst (λ (s : List Step). ReadsFirst s) steps (reads_first words outcome means))),
+            ));
+      },
+      rose old.tally.write_faults new.tally.write_faults
+          ((say_counts tells cut.line cut.failed new cut.said).writes ∙ write_fails tells file name text cut.at cut.failed fails ∙ ap (λ (n : ℕ). one_more n) kept.write_faults),
+      record { file = file; name = name; text = text; before = cut.before; behind = cut.behind; are = steps },
+    )
+    at_step (says text) steps fails fault = absurd fault
+
+  whole_is_due : IsWhole outcome answer tells old new → Due old.contents.held words outcome
+  whole_is_due whole = record { meant = means; reads_held = reads_held tells outcome.steps old new told whole.done }
+
+  unsaid_is_due : IsUnsaid outcome answer tells old new → Due old.contents.held words outcome
+  unsaid_is_due part = record {
+    meant = means;
+    reads_held = subst (λ (s : List Step). AllByRecursion (IsHeld old.contents.held) s) (sym part.steps)
+        (all_both (IsHeld old.contents.held) part.before (says part.text ∷ []) (reads_held tells part.before old part.at told part.done) (tt, tt));
+  }
+
+  unsaid_rose : IsUnsaid outcome answer tells old new → Rose old.tally.say_faults new.tally.say_faults
+  unsaid_rose part = rose old.tally.say_faults new.tally.say_faults
+      (say_fails tells part.text part.at new part.fails ∙ ap (λ (n : ℕ). one_more n) (steps_keep tells part.before old part.at part.done).say_faults)
+
+-- ---- The outcome that is due is what happens
+
+same_whole : (a b : Outcome) (answer : Status) (tells : Bool) (old new : World) → a ≡ b → IsWhole a answer tells old new → IsWhole b answer tells old new
+same_whole a b answer tells old new same whole = subst (λ (o : Outcome). IsWhole o answer tells old new) same whole
+
+pub complete : (words : List (List ℕ)) (answer : Status) (tells : Bool) (old new : World) → IsTrue tells → Ends words answer tells old new → (due : Outcome) → Due old.contents.held words due
+    → NoneFailed old.tally new.tally → IsWhole due answer tells old new ⊎ (answer ≡ status.NoMemory)
+complete words answer tells old new told (inl (outcome, means, inl whole)) due is none =
+    inl (same_whole outcome due answer tells old new (one_outcome old.contents.held words outcome due (whole_is_due words outcome answer tells old new told means whole) is) whole)
+complete words answer tells old new told (inl (outcome, means, inr (inl cut))) due is none = absurd (none.writes (cut_is_due words outcome answer tells old new told means cut none.reads).1)
+complete words answer tells old new told (inl (outcome, means, inr (inr part))) due is none = absurd (none.says (unsaid_rose words outcome answer tells old new told means part))
+complete words answer tells old new told (inr (command, asks, memory)) due is none = inr memory.status_is
+
+-- an outcome that is a refusal has no file that is written
+no_write : (before behind : List Step) (file : Which) (name text : List ℕ) → AllByRecursion MakesNone (before ++ writes file name text ∷ behind) → ⊥
+unfolding MakesNone
+no_write before behind file name text all = (all_back MakesNone before (writes file name text ∷ behind) all).0
+
+refusal_undone : (other : Status) → IsRefusal other → other ≡ status.Done → ⊥
+refusal_undone other refusal done = subst (λ (s : Status). IsRefusal s) done refusal
+
+refusal_unsaid : (other : Status) → IsRefusal other → unsaid other ≡ other
+refusal_unsaid status.Done refusal = absurd refusal
+refusal_unsaid status.Words refusal = refl
+refusal_unsaid (status.Deck r) refusal = refl
+refusal_unsaid (status.Layout r) refusal = refl
+refusal_unsaid (status.ReadFault file) refusal = refl
+refusal_unsaid (status.WriteFault file) refusal = absurd refusal
+refusal_unsaid status.NoMemory refusal = refl
+
+pub refused : (words : List (List ℕ)) (answer : Status) (tells : Bool) (old new : World) → IsTrue tells → Ends words answer tells old new → (due : Outcome) → Due old.contents.held words due
+    → IsRefusal due.status → (Rose old.tally.read_faults new.tally.read_faults → ⊥) → (answer ≡ due.status) ⊎ (answer ≡ status.NoMemory)
+refused words answer tells old new told (inl (outcome, means, inl whole)) due is refusal none =
+    inl (whole.status_is ∙ ap (λ (o : Outcome). o.status) (one_outcome old.contents.held words outcome due (whole_is_due words outcome answer tells old new told means whole) is))
+refused words answer tells old new told (inl (outcome, means, inr (inl cut))) due is refusal none =
+    let found = cut_is_due words outcome answer tells old new told means cut none in
+    let same = one_outcome old.contents.held words outcome due found.0 is in
+    let written = found.2 in
+    absurd (no_write written.before written.behind written.file written.name written.text
+    (subst (λ (s : List Step). AllByRecursion MakesNone s) (sym (ap (λ (o : Outcome). o.steps) same) ∙ written.are) (refusal_makes_none words due is.meant (refusal_undone due.status refusal))))
+refused words answer tells old new told (inl (outcome, means, inr (inr part))) due is refusal none =
+    let same = one_outcome old.contents.held words outcome due (unsaid_is_due words outcome answer tells old new told means part) is in
+    inl (part.status_is ∙ ap (λ (o : Outcome). unsaid o.status) same ∙ refusal_unsaid due.status refusal)
+refused words answer tells old new told (inr (command, asks, memory)) due is refusal none = inr memory.status_is

@@ -1,0 +1,37 @@
+ghost use Rattle.std.specs.Prelude.{◌≡◌};
+ghost use Rattle.drc_cli.specs.declared.ending.Ending.TheVariants.{Memory};
+
+use crate::answer::{Status, Which};
+use crate::deck_kind::DeckRefusal;
+use drc_geom::Name;
+use gds_records::LayoutRefusal;
+use std::alloc::{AllocError, AllocFailed};
+
+/// Why a check writes nothing.
+#[derive(Debug, Drop)]
+pub enum Ending {
+    /// The deck is refused.
+    Deck(DeckRefusal),
+    /// The layout is refused.
+    Layout(LayoutRefusal),
+    /// The file of this name could not be read.
+    ReadFault(Which, Name),
+    /// Memory ran out.
+    Memory,
+}
+
+impl From<AllocError> for Ending {
+    ghost from_gives = { λ _ ending. ending ≡ Memory };
+
+    fn from(_: AllocError) -> Ending {
+        Ending::Memory
+    }
+}
+
+impl<T: Drop> From<AllocFailed<T>> for Ending {
+    ghost from_gives = { λ _ ending. ending ≡ Memory };
+
+    fn from(_: AllocFailed<T>) -> Ending {
+        Ending::Memory
+    }
+}

@@ -1,0 +1,6 @@
+-- a call that was interrupted has done nothing
+use Rattle.std.specs.Io.KnownBytes.{Keeps}
+use Rattle.drc_ports.proofs.retry.read_again.Given as goal
+
+abbrev pub invariant-tries : goal.invariant-tries
+invariant-tries g l = Keeps (g.R.Read.remaining l.initial.reader) (g.R.Read.remaining l.reader)

@@ -1,0 +1,6 @@
+-- a call that was interrupted has done nothing
+use Rattle.std.specs.Io.KnownBytes.{Keeps}
+use Rattle.drc_ports.proofs.retry.write_again.Given as goal
+
+abbrev pub invariant-tries : goal.invariant-tries
+invariant-tries g l = Keeps (g.W.Write.contents l.initial.writer) (g.W.Write.contents l.writer)

@@ -1,0 +1,4 @@
+pub mod EitherOr
+pub mod Between
+pub mod InOrder
+pub mod Attempts

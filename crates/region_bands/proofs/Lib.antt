@@ -1,0 +1,5 @@
+mod LastLine
+mod BandRows
+mod SameBands
+mod BandRise
+mod BandPush

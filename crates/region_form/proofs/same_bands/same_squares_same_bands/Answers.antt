@@ -1,5 +1,0 @@
-use Rattle.region_form.proofs.SameBands.{same_bands}
-use Rattle.region_form.proofs.same_bands.same_squares_same_bands.Goals as goal
-
-pub returns : goal.returns
-returns c = same_bands
