@@ -15,7 +15,7 @@ use Rattle.drc_cli.specs.Working.Endings.{status_of, line_of}
 use Rattle.drc_cli.specs.Lines.{deck_line, layout_line, read_line, memory_line, words_line}
 use Rattle.drc_cli.specs.Meaning.{refused_words}
 use Rattle.drc_cli.specs.Outcome.{Outcome, Step, reads, says}
-use Rattle.drc_cli.specs.Run.{Ends, EndsAs, IsOutOfMemory, unsaid}
+use Rattle.drc_cli.specs.ProgramEnds.{Ends, EndsAs, IsOutOfMemory, unsaid}
 use Rattle.drc_cli.specs.Working.Tries.{Tries}
 use Rattle.drc_cli.proofs.StepLaws.{one_done, ends_with, tried}
 

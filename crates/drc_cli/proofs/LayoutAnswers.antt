@@ -13,7 +13,7 @@ use Rattle.drc_cli.specs.declared.layout.slot.Slot.{Slot}
 use Rattle.drc_cli.specs.declared.layout.slot.Slot.TheVariants.{Header, Points}
 use Rattle.drc_cli.specs.declared.layout.reader.Stop.{Stop}
 use Rattle.drc_cli.specs.declared.layout.reader.Stop.TheVariants.{Ended}
-use Rattle.drc_cli.specs.Layout.{Element, Stands, following, AllStand, points_in, Accepts, drawn}
+use Rattle.drc_cli.specs.Layout.{Element, Stands, following, AllStand, Accepts, drawn}
 use Rattle.drc_cli.specs.Working.LayoutReading.{Sought, HasStopped, elements_at, elements_from, elements_of, rect_of, rects_on}
 use Rattle.drc_cli.proofs.LayoutForms.{form_from_slots}
 
@@ -65,7 +65,7 @@ one_covers : (b : Bool) (element : Element) (others : List Element) (x y : ℤ)
 one_covers true element others x y = refl
 one_covers false element others x y = refl
 
-covers : (number : ℕ) (elements : List Element) → AllByRecursion IsDrawn elements → (x y : ℤ) → covered (rects_on number elements) x y ≡ drawn number elements x y
+pub covers : (number : ℕ) (elements : List Element) → AllByRecursion IsDrawn elements → (x y : ℤ) → covered (rects_on number elements) x y ≡ drawn number elements x y
 covers number [] all x y = refl
 covers number (element ∷ elements) all x y =
     let b = element.number == number in

@@ -1,7 +1,7 @@
 -- Laws of a layout's answer: a stream that is accepted isn't refused, and one that is refused is refused in one way.
-use Rattle.std.proofs.Common.{◌≡◌, ℕ, ◌+◌, inl, inr, List, [], ◌∷◌, ◌++◌, refl, sym, ap, subst, ◌∙◌, arith, append_assoc}
+use Rattle.std.proofs.Common.{◌≡◌, ℕ, inl, inr, List, [], ◌∷◌, ◌++◌, refl, sym, ap, subst, ◌∙◌, append_assoc}
 use Rattle.std.specs.List.{flat_map}
-use Rattle.std.proofs.lemmas.List.{append-nil, append_cancel_left}
+use Rattle.std.proofs.lemmas.List.{append-nil}
 use Rattle.gds_records.specs.Records.{Item, spelling, Cuts, end_of, EndsLibrary, ComesNext}
 use Rattle.gds_records.specs.declared.fault.LayoutKind.{LayoutKind}
 use Rattle.gds_records.specs.declared.fault.LayoutKind.TheVariants as kinds

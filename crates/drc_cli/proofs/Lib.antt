@@ -1,20 +1,23 @@
-pub mod DeckFields
-pub mod DeckNumbers
-pub mod DeckLines
-pub mod DeckLaws
-pub mod DeckFound
-pub mod LayoutSlots
-pub mod LayoutForms
-pub mod LayoutSteps
-pub mod LayoutPieces
-pub mod LayoutAnswers
-pub mod LayoutLaws
-pub mod ShortRuns
-pub mod Names
-pub mod StepLaws
-pub mod Settings
-pub mod Empty
-pub mod Decided
-pub mod Ended
-pub mod OneOutcome
-pub mod RunLaws
+mod DeckFields
+mod DeckNumbers
+mod DeckLines
+mod DeckLaws
+mod DeckFound
+mod LayoutSlots
+mod LayoutForms
+mod LayoutSteps
+mod LayoutPieces
+mod LayoutAnswers
+mod LayoutLaws
+mod ShortRuns
+mod Names
+mod StepLaws
+mod Settings
+mod Empty
+mod Decided
+mod Ended
+mod SomeResults
+mod OneOutcome
+mod DoneSteps
+mod ReadsFirst
+mod EndLaws

@@ -10,10 +10,11 @@ use Rattle.gds_records.specs.declared.fault.LayoutRefusal.{LayoutRefusal}
 use Rattle.drc_cli.specs.declared.answer.Status.{Status}
 use Rattle.drc_cli.specs.declared.answer.Status.TheVariants as status
 use Rattle.drc_cli.specs.declared.answer.Which.TheVariants as which
-use Rattle.drc_cli.specs.CheckMeaning.{CheckLeads, IsServed, HasRefusedDeck, HasRefusedLayout, Reports, results_of, unserved_deck, IsAnswered}
-use Rattle.drc_cli.specs.Command.{CheckRequest, Command, check, AsksForCheck, Asks}
+use Rattle.drc_cli.specs.CheckMeaning.{CheckLeads, IsServed, HasRefusedDeck, HasRefusedLayout, Reports, results_of, unserved_deck, IsJudged}
+use Rattle.drc_cli.specs.Command.{CheckRequest, Command, check, AsksForCheck}
+use Rattle.drc_cli.proofs.SomeResults.{has_results}
 use Rattle.drc_cli.specs.Deck.{Deck, Spells, input_of, units_of, precision}
-use Rattle.drc_cli.specs.Layout.{Element, Accepts, Refuses, drawn}
+use Rattle.drc_cli.specs.Layout.{Element, Refuses, drawn}
 use Rattle.drc_cli.specs.Lines.{deck_line, layout_line}
 use Rattle.drc_cli.specs.Meaning.{Means, Leads, IsHeld, Due}
 use Rattle.drc_cli.specs.Outcome.{Outcome, Step, reads, writes, says}
@@ -151,25 +152,11 @@ module _ (held : List ℕ → Option (List ℕ)) (words : List (List ℕ)) (requ
       (record { status = status.Deck unserved_deck; steps = reads which.Deck request.deck deck ∷ says (deck_line unserved_deck) ∷ [] })
       (inr (inl (record { deck = deck; unserved = none; status_is = refl; steps_are = refl }))) (deck_held, (tt, tt))
 
-  answered : (d : Deck) → Spells request.deck deck d → IsAnswered held request.date d → (o : Outcome) × Due held words o
-  answered d spelled is = elim is.answer [
-    | inl refused ↦ due
-        (record {
-          status = status.Layout refused.0;
-          steps = reads which.Deck request.deck deck ∷ reads which.Layout d.layout is.bytes ∷ says (layout_line refused.0) ∷ [];
-        })
-        (inr (inr (record {
-          deck = deck;
-          d = d;
-          bytes = is.bytes;
-          refusal = refused.0;
-          spelled = spelled;
-          refused = refused.1;
-          status_is = refl;
-          steps_are = refl;
-        })))
-        (deck_held, (is.is_held, (tt, tt)))
-    | inr reported ↦ due
+  answered : (d : Deck) → Spells request.deck deck d → IsJudged held d → (o : Outcome) × Due held words o
+  answered d spelled is = elim is.judged [
+    | inl accepted ↦
+        let reported = has_results d is.bytes request.date accepted.0 accepted.1 in
+        due
         (record {
           status = status.Done;
           steps = reads which.Deck request.deck deck ∷ reads which.Layout d.layout is.bytes ∷ writes which.Results d.results reported.0 ∷ says reported.1 ∷ [];
@@ -186,9 +173,25 @@ module _ (held : List ℕ → Option (List ℕ)) (words : List (List ℕ)) (requ
           steps_are = refl;
         }))
         (deck_held, (is.is_held, (tt, (tt, tt))))
+    | inr refused ↦ due
+        (record {
+          status = status.Layout refused.0;
+          steps = reads which.Deck request.deck deck ∷ reads which.Layout d.layout is.bytes ∷ says (layout_line refused.0) ∷ [];
+        })
+        (inr (inr (record {
+          deck = deck;
+          d = d;
+          bytes = is.bytes;
+          refusal = refused.0;
+          spelled = spelled;
+          refused = refused.1;
+          status_is = refl;
+          steps_are = refl;
+        })))
+        (deck_held, (is.is_held, (tt, tt)))
   ]
 
-  pub some_outcome : ((d : Deck) → Spells request.deck deck d → IsAnswered held request.date d) → (o : Outcome) × Due held words o
+  pub some_outcome : ((d : Deck) → Spells request.deck deck d → IsJudged held d) → (o : Outcome) × Due held words o
   some_outcome each = elim (each_text request.deck deck) [
     | inl spelled ↦ answered spelled.0 spelled.1 (each spelled.0 spelled.1)
     | inr none ↦ unserved none

@@ -1,5 +1,5 @@
 -- The words of a command: settings, one after the other, before a last word.
-use Rattle.std.proofs.Common.{Bor, is_some, not, ◌≡◌, ℕ, ◌-◌, ◌<◌, ◌≤◌, length, map, take, drop, get_or, arith, true, false, Bool, List, [], ◌∷◌, ◌++◌, Option, Some, None, if◌then◌else◌, refl, sym, ap, subst, ◌∙◌, append_assoc}
+use Rattle.std.proofs.Common.{Bor, is_some, not, ◌≡◌, ℕ, ◌-◌, ◌<◌, ◌≤◌, length, map, take, drop, get_or, arith, true, false, Bool, List, [], ◌∷◌, ◌++◌, Option, Some, None, if◌then◌else◌, refl, sym, ap, ◌∙◌, append_assoc}
 use Rattle.std.specs.Prelude.{codes, unwrap_or, ◌==◌}
 use Rattle.std.specs.Str.{bytes_eq}
 use Rattle.std.specs.Option.{option_copied}

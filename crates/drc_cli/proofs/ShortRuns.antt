@@ -1,6 +1,6 @@
 -- The short ones of the maximal runs of a boundary are the maximal runs of what LENGTH keeps.
 use Rattle.std.proofs.Common.{◌≡◌, ◌↔◌, ℕ, ℤ, List, sym, ap, subst, ◌∙◌}
-use Rattle.std.specs.Prelude.{filter, Result, Ok, Err, IfOk}
+use Rattle.std.specs.Prelude.{Result, Ok, Err, IfOk}
 use Rattle.std.specs.Global.{Vec}
 use Rattle.std.proofs.lemmas.List.Kept.{IsStrictlySortedBy-filter}
 use Rattle.list_facts.specs.InOrder.{ListsInOrder}

@@ -10,7 +10,7 @@ use Rattle.drc_cli.specs.declared.answer.Which.{Which}
 use Rattle.drc_cli.specs.Working.Decide.{Leaves}
 use Rattle.drc_cli.specs.Lines.{Refusal, refusal_line, write_line}
 use Rattle.drc_cli.specs.Outcome.{Outcome, Step, reads, writes, says}
-use Rattle.drc_cli.specs.Run.{EndsAs, IsWhole, IsCut, IsUnsaid}
+use Rattle.drc_cli.specs.ProgramEnds.{EndsAs, IsWhole, IsCut, IsUnsaid}
 use Rattle.drc_cli.specs.Steps.{Changes, IsDone, AreDone, IsCutShort, ChangesInPart, IsUnopened, IsBrokenOff, Fails, IsTried}
 use Rattle.drc_cli.specs.Working.Endings.{said_status}
 use Rattle.drc_cli.specs.Working.Tries.{Tries}

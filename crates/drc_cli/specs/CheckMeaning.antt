@@ -71,8 +71,8 @@ abbrev pub CheckLeads : CheckRequest → Outcome → Type 0
 CheckLeads request outcome =
     IsServed request outcome ⊎ (HasRefusedDeck request outcome ⊎ HasRefusedLayout request outcome)
 
--- the layout that a deck names is held, and is refused or has results
-pub record IsAnswered (held : List ℕ → Option (List ℕ)) (date : List ℕ) (d : Deck) : Type 0 where
+-- the layout that a deck names is held, and is accepted or refused
+pub record IsJudged (held : List ℕ → Option (List ℕ)) (d : Deck) : Type 0 where
   pub bytes : List ℕ
   pub is_held : held d.layout ≡ Some bytes
-  pub answer : ((refusal : LayoutRefusal) × Refuses d.primary bytes refusal) ⊎ ((text line : List ℕ) × Reports d bytes date text line)
+  pub judged : ((elements : List Element) × Accepts d.primary bytes elements) ⊎ ((refusal : LayoutRefusal) × Refuses d.primary bytes refusal)

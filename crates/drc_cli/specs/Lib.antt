@@ -11,5 +11,5 @@ pub mod Outcome
 pub mod Steps
 pub mod CheckMeaning
 pub mod Meaning
-pub mod Run
+pub mod ProgramEnds
 pub mod Working

@@ -42,7 +42,8 @@ pub fn command_of(words: &[String]) -> Option<Command<'_>>
 /// The check that the words after `check` ask for.
 fn check_of(words: &[String]) -> Option<CheckRequest<'_>>
     ensures asked { IfSome result (λ request. AsksForCheck (codes "check" ∷ map string_bytes words.now) (request_of request)) }
-    ensures refused { IfNone result ((request : Request) → AsksForCheck (codes "check" ∷ map string_bytes words.now) request → ⊥) }
+    ensures refused { IfNone result ((request : Request)
+        → AsksForCheck (codes "check" ∷ map string_bytes words.now) request → ⊥) }
 {
     let (deck, options) = words.split_last()?;
     if !is_file_word(deck.as_bytes()) {
@@ -57,8 +58,10 @@ fn check_of(words: &[String]) -> Option<CheckRequest<'_>>
 
 /// What the words before the deck's name set.
 fn settings_of(words: &[String]) -> Option<CheckSettings<'_>>
-    ensures set { IfSome result (λ found. (settings : List Setting) × HasSettings settings found × (map string_bytes words.now ≡ words_of settings)) }
-    ensures refused { IfNone result ((settings : List Setting) → map string_bytes words.now ≡ words_of settings → AreServed settings → ⊥) }
+    ensures set { IfSome result (λ found. (settings : List Setting) × HasSettings settings found
+        × (map string_bytes words.now ≡ words_of settings)) }
+    ensures refused { IfNone result ((settings : List Setting)
+        → map string_bytes words.now ≡ words_of settings → AreServed settings → ⊥) }
 {
     let mut settings = CheckSettings { date: None };
     let mut rest = words;

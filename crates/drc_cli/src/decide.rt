@@ -30,7 +30,8 @@ pub fn decide_check<F: Files>(
     request: &CheckRequest<'_>,
     files: &mut F,
 ) -> Result<Ready, Ending>
-    ensures { IsDecided (request_of request.now) result F.tells (world (F.tally files.old) (F.contents files.old)) (world (F.tally files.new) (F.contents files.new)) }
+    ensures { IsDecided (request_of request.now) result F.tells
+        (world (F.tally files.old) (F.contents files.old)) (world (F.tally files.new) (F.contents files.new)) }
 {
     match deck_text(alloc, request.deck, files) {
         Err(ending) => Err(ending),
@@ -49,7 +50,8 @@ pub fn decide_check<F: Files>(
 
 /// The deck's text; of one that is longer than the longest, more than so many bytes of its front.
 fn deck_text<F: Files>(alloc: Global, name: &str, files: &mut F) -> Result<Vec<u8>, Ending>
-    ensures { IsDeckRead name.now result F.tells (world (F.tally files.old) (F.contents files.old)) (world (F.tally files.new) (F.contents files.new)) }
+    ensures { IsDeckRead name.now result F.tells
+        (world (F.tally files.old) (F.contents files.old)) (world (F.tally files.new) (F.contents files.new)) }
 {
     let file = String::from_str(alloc, name)?;
     let kept = Name::new(alloc, name.as_bytes())?;
@@ -70,7 +72,8 @@ fn layout_rects<F: Files>(
     files: &mut F,
 ) -> Result<Vec<Rect>, Ending>
     requires layout { IsFileName deck.now.layout.now }
-    ensures read { IsLayoutRead deck.now result F.tells (world (F.tally files.old) (F.contents files.old)) (world (F.tally files.new) (F.contents files.new)) }
+    ensures read { IsLayoutRead deck.now result F.tells
+        (world (F.tally files.old) (F.contents files.old)) (world (F.tally files.new) (F.contents files.new)) }
     ensures rects { IfOk result (λ rects. AllByRecursion IsRect rects.items) }
 {
     let file = text_of_name(alloc, deck.layout)?;

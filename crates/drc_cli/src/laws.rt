@@ -5,7 +5,7 @@ ghost use Rattle.gds_records.specs.declared.fault.LayoutRefusal.{LayoutRefusal};
 ghost use Rattle.drc_cli.specs.Deck.{Deck, Spells};
 ghost use Rattle.drc_cli.specs.Layout.{Element, Accepts, Refuses};
 ghost use Rattle.drc_cli.specs.Command.{CheckRequest, AsksForCheck, AreRefused};
-ghost use Rattle.drc_cli.specs.CheckMeaning.{IsAnswered};
+ghost use Rattle.drc_cli.specs.CheckMeaning.{IsJudged};
 ghost use Rattle.drc_cli.specs.Outcome.{Outcome};
 ghost use Rattle.drc_cli.specs.Meaning.{Due, refused_words};
 
@@ -31,10 +31,12 @@ pub fn one_outcome()
 {}
 
 /// And at least one: words that ask for nothing; and a check whose deck is held and either spells nothing that is served
-/// or names a layout that is held, and is refused or has results.
+/// or names a layout that is held, and is accepted or refused.
 pub fn some_outcome()
-    ensures words { (held : List ℕ → Option (List ℕ)) (words : List (List ℕ)) → AreRefused words → Due held words refused_words }
+    ensures words { (held : List ℕ → Option (List ℕ)) (words : List (List ℕ)) → AreRefused words
+        → Due held words refused_words }
     ensures check { (held : List ℕ → Option (List ℕ)) (words : List (List ℕ)) (request : CheckRequest) (text : List ℕ)
         → AsksForCheck words request → held request.deck ≡ Some text
-        → ((d : Deck) → Spells request.deck text d → IsAnswered held request.date d) → (outcome : Outcome) × Due held words outcome }
+        → ((d : Deck) → Spells request.deck text d → IsJudged held d) → (outcome : Outcome)
+        × Due held words outcome }
 {}

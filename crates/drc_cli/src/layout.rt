@@ -33,11 +33,14 @@ pub fn read_layout<F: Files>(
     number: u16,
 ) -> Result<Vec<Rect>, LayoutEnd>
     requires started { IsTrue (F.tally files.old).started }
-    ensures accepted { IfOk result (λ rects. (bytes : List ℕ) × (elements : List Element) × Accepts primary.now bytes elements
-        × ((x y : ℤ) → covered rects.items x y ≡ drawn number elements x y) × (IsTrue F.tells → (F.contents files.old).left ≡ bytes)) }
+    ensures accepted { IfOk result (λ rects. (bytes : List ℕ) × (elements : List Element)
+        × Accepts primary.now bytes elements
+        × ((x y : ℤ) → covered rects.items x y ≡ drawn number elements x y) × (IsTrue F.tells
+        → (F.contents files.old).left ≡ bytes)) }
     ensures refused { (r : LayoutRefusal) → result ≡ Err (LayoutEnd.Refused r)
         → (bytes : List ℕ) × Refuses primary.now bytes r × (IsTrue F.tells → (F.contents files.old).left ≡ bytes) }
-    ensures same { IsTrue F.tells → F.contents files.new ≡ record (F.contents files.old) { left = (F.contents files.new).left } }
+    ensures same { IsTrue F.tells
+        → F.contents files.new ≡ record (F.contents files.old) { left = (F.contents files.new).left } }
     ensures counts { CountsReads result (F.tally files.old) (F.tally files.new) }
     ensures areas { IfOk result (λ rects. AllByRecursion IsRect rects.items) }
 {

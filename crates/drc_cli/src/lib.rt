@@ -37,4 +37,6 @@ pub use laws::{one_deck, one_layout_answer, one_outcome, some_outcome};
 pub use top::{run, run_without_memory};
 
 #[cfg(test)]
+mod layout_samples;
+#[cfg(test)]
 mod tests;

@@ -26,7 +26,8 @@ pub fn say_refusal<F: Files>(
     refused: &[u8],
     reason: &Reason<'_>,
 ) -> Result<(), Failed>
-    ensures { Tries F.tells (says (refusal_line refused.now (refusal_of reason.now))) result (world (F.tally files.old) (F.contents files.old)) (world (F.tally files.new) (F.contents files.new)) }
+    ensures { Tries F.tells (says (refusal_line refused.now (refusal_of reason.now))) result
+        (world (F.tally files.old) (F.contents files.old)) (world (F.tally files.new) (F.contents files.new)) }
 {
     let mut digits = Buffer::new();
     match say_three(
@@ -41,7 +42,8 @@ pub fn say_refusal<F: Files>(
 }
 
 fn say_place<F: Files>(files: &mut F, reason: &Reason<'_>) -> Result<(), Failed>
-    ensures { Tries F.tells (says (codes " at " ++ decimal reason.now.at ++ codes " " ++ (reason.now.word.now ++ reason.now.detail.now ++ codes "\n"))) result (world (F.tally files.old) (F.contents files.old)) (world (F.tally files.new) (F.contents files.new)) }
+    ensures { Tries F.tells (says (codes " at " ++ decimal reason.now.at ++ codes " " ++ (reason.now.word.now ++ reason.now.detail.now ++ codes "\n"))) result
+        (world (F.tally files.old) (F.contents files.old)) (world (F.tally files.new) (F.contents files.new)) }
 {
     let mut digits = Buffer::new();
     match say_three(files, b" at ", digits.format(reason.at).as_bytes(), b" ") {
@@ -57,7 +59,8 @@ pub fn say_three<F: Files>(
     second: &[u8],
     third: &[u8],
 ) -> Result<(), Failed>
-    ensures { Tries F.tells (says (first.now ++ second.now ++ third.now)) result (world (F.tally files.old) (F.contents files.old)) (world (F.tally files.new) (F.contents files.new)) }
+    ensures { Tries F.tells (says (first.now ++ second.now ++ third.now)) result
+        (world (F.tally files.old) (F.contents files.old)) (world (F.tally files.new) (F.contents files.new)) }
 {
     match say_two(files, first, second) {
         Err(failed) => Err(failed),
@@ -66,7 +69,8 @@ pub fn say_three<F: Files>(
 }
 
 fn say_two<F: Files>(files: &mut F, first: &[u8], second: &[u8]) -> Result<(), Failed>
-    ensures { Tries F.tells (says (first.now ++ second.now)) result (world (F.tally files.old) (F.contents files.old)) (world (F.tally files.new) (F.contents files.new)) }
+    ensures { Tries F.tells (says (first.now ++ second.now)) result
+        (world (F.tally files.old) (F.contents files.old)) (world (F.tally files.new) (F.contents files.new)) }
 {
     match say_all(files, first) {
         Err(failed) => Err(failed),

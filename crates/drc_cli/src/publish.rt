@@ -4,7 +4,7 @@ ghost use Rattle.drc_ports.specs.Files.{world};
 ghost use Rattle.drc_cli.specs.declared.answer.Which.TheVariants.{Results};
 ghost use Rattle.drc_cli.specs.Working.Decide.{last_steps};
 ghost use Rattle.drc_cli.specs.Outcome.{writes};
-ghost use Rattle.drc_cli.specs.Run.{EndsAs};
+ghost use Rattle.drc_cli.specs.ProgramEnds.{EndsAs};
 ghost use Rattle.drc_cli.specs.Working.Endings.{said_status};
 ghost use Rattle.drc_cli.specs.Working.Tries.{Tries};
 
@@ -17,7 +17,8 @@ use drc_ports::{Failed, Files};
 /// Makes the file, writes its text, and says the line. Where the file can't be written, says which it is.
 pub fn write_results<F: Files>(files: &mut F, ready: Ready) -> Status
     requires named { ready.name ≡ string_bytes ready.file }
-    ensures { EndsAs (record { status = Status.Done; steps = last_steps ready }) result F.tells (world (F.tally files.old) (F.contents files.old)) (world (F.tally files.new) (F.contents files.new)) }
+    ensures { EndsAs (record { status = Status.Done; steps = last_steps ready }) result F.tells
+        (world (F.tally files.old) (F.contents files.old)) (world (F.tally files.new) (F.contents files.new)) }
 {
     let Ready {
         file,
@@ -45,7 +46,8 @@ fn said_status(said: Result<(), Failed>) -> Status
 }
 
 fn write_file<F: Files>(files: &mut F, file: String, text: &[u8]) -> Result<(), Failed>
-    ensures { Tries F.tells (writes Results (string_bytes file) text.now) result (world (F.tally files.old) (F.contents files.old)) (world (F.tally files.new) (F.contents files.new)) }
+    ensures { Tries F.tells (writes Results (string_bytes file) text.now) result
+        (world (F.tally files.old) (F.contents files.old)) (world (F.tally files.new) (F.contents files.new)) }
 {
     match files.create(file) {
         Err(failed) => Err(failed),

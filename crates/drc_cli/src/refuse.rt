@@ -13,7 +13,8 @@ use drc_ports::{Failed, Files};
 
 /// Says the line of an ending. Where a call fails a front of it was said, and the failure is handed on.
 pub fn say_ending<F: Files>(files: &mut F, ending: &Ending) -> Result<(), Failed>
-    ensures { Tries F.tells (says (line_of ending.now)) result (world (F.tally files.old) (F.contents files.old)) (world (F.tally files.new) (F.contents files.new)) }
+    ensures { Tries F.tells (says (line_of ending.now)) result
+        (world (F.tally files.old) (F.contents files.old)) (world (F.tally files.new) (F.contents files.new)) }
 {
     match ending {
         Ending::Deck(refusal) => {

@@ -1,5 +1,6 @@
 //! Whole checks over files in memory.
 use super::*;
+use crate::layout_samples::{layout, outline};
 use drc_geom::Name;
 use drc_ports::{CallKind, Files, HeldFile, MemoryFiles, OpenGate, Planned};
 use gds_records::{LayoutKind, LayoutRefusal};
@@ -15,20 +16,6 @@ const DECK: &[u8] =
 /// As DECK, with other names and a bound of 250 units.
 const OTHER_DECK: &[u8] =
     b"LAYOUT SYSTEM GDSII\nLAYOUT PATH \"a.gds\"\nLAYOUT PRIMARY TOP\nDRC RESULTS DATABASE \"a.db\" ASCII\nLAYER M1 1\nR { @ n\nLENGTH M1 < 0.25\n}\n";
-
-/// The stream up to the first element, an element on layer 1 up to its coordinates, and the end of the stream.
-const HEAD: [u8; 98] = [
-    0, 6, 0, 2, 2, 88, 0, 28, 1, 2, 0, 0, 0, 0, 0, 0, 0, 0, 0, 0, 0, 0, 0, 0, 0, 0, 0, 0, 0, 0, 0,
-    0, 0, 0, 0, 8, 2, 6, 76, 73, 66, 0, 0, 20, 3, 5, 62, 65, 137, 55, 75, 198, 167, 240, 57, 68,
-    184, 47, 160, 155, 90, 84, 0, 28, 5, 2, 0, 0, 0, 0, 0, 0, 0, 0, 0, 0, 0, 0, 0, 0, 0, 0, 0, 0,
-    0, 0, 0, 0, 0, 0, 0, 8, 6, 6, 84, 79, 80, 0,
-];
-
-const ELEMENT: [u8; 20] = [
-    0, 4, 8, 0, 0, 6, 13, 2, 0, 1, 0, 6, 14, 2, 0, 0, 0, 44, 16, 3,
-];
-
-const TAIL: [u8; 8] = [0, 4, 7, 0, 0, 4, 4, 0];
 
 /// A rectangle's x0, y0, x1 and y1, of its lower left and its upper right corner.
 type Corners = [i32; 4];
@@ -91,22 +78,13 @@ fn failing(alloc: Global, call: Option<(CallKind, u64)>) -> Result<Vec<Planned>,
     Ok(fails)
 }
 
-fn put_rectangle(stream: &mut Vec<u8>, corners: &Corners) -> Result<(), AllocError> {
-    let [x0, y0, x1, y1] = *corners;
-    stream.extend_from_slice(&ELEMENT)?;
-    for coordinate in [x0, y0, x1, y0, x1, y1, x0, y1, x0, y0] {
-        stream.extend_from_slice(&coordinate.to_be_bytes())?;
-    }
-    stream.extend_from_slice(&[0, 4, 17, 0])
-}
-
+/// A layout with these rectangles on layer 1.
 fn stream(alloc: Global, rectangles: &[Corners]) -> Result<Vec<u8>, AllocError> {
-    let mut bytes = Vec::from_slice(alloc, &HEAD)?;
-    for corners in rectangles {
-        put_rectangle(&mut bytes, corners)?;
+    let mut elements = Vec::new(alloc);
+    for &[x0, y0, x1, y1] in rectangles {
+        elements.push((1, outline(x0, y0, x1, y1)))?;
     }
-    bytes.extend_from_slice(&TAIL)?;
-    Ok(bytes)
+    layout(alloc, &elements)
 }
 
 fn answer_of<R: Threads + Wait + Sync, F: Files>(

@@ -7,7 +7,7 @@ ghost use Rattle.drc_cli.specs.Command.{CheckRequest as Request, check as asked_
 ghost use Rattle.drc_cli.specs.Working.CommandView.{request_of};
 ghost use Rattle.drc_cli.specs.Meaning.{Due};
 ghost use Rattle.drc_cli.specs.Outcome.{Outcome};
-ghost use Rattle.drc_cli.specs.Run.{Ends, IsOutOfMemory, IsWhole, NoneFailed, HasResults, IsRefusal, MakesNothing};
+ghost use Rattle.drc_cli.specs.ProgramEnds.{Ends, IsOutOfMemory, IsWhole, NoneFailed, HasResults, IsRefusal, MakesNothing};
 
 use crate::answer::{Report, Status};
 use crate::command::{CheckRequest, Command, command_of};
@@ -33,23 +33,30 @@ pub fn run<R: Threads + Wait + Sync, F: Files, G: Gate + Sync>(
     ensures words { (result.status ≡ Status.Words) ↔ AreRefused (map string_bytes words.now) }
 
     // The run ends with the outcome that the words mean, or at a step of it that fails, or for want of memory.
-    ensures ended { Ends (map string_bytes words.now) result.status F.tells (world (F.tally files.old) (F.contents files.old)) (world (F.tally files.new) (F.contents files.new)) }
+    ensures ended { Ends (map string_bytes words.now) result.status F.tells
+        (world (F.tally files.old) (F.contents files.old)) (world (F.tally files.new) (F.contents files.new)) }
 
     // Done: the results file holds exactly the bytes that deck and layout mean, and the line is said.
     ensures results { IsTrue F.tells → result.status ≡ Status.Done
-        → (request : Request) × AsksForCheck (map string_bytes words.now) request × HasResults request (F.contents files.old) (F.contents files.new) }
+        → (request : Request) × AsksForCheck (map string_bytes words.now) request
+        × HasResults request (F.contents files.old) (F.contents files.new) }
 
     // Any answer but Done and a failure to write comes before a file is made.
     ensures unmade { IsRefusal result.status
-        → MakesNothing F.tells (world (F.tally files.old) (F.contents files.old)) (world (F.tally files.new) (F.contents files.new)) }
+        → MakesNothing F.tells
+        (world (F.tally files.old) (F.contents files.old)) (world (F.tally files.new) (F.contents files.new)) }
 
     // Where no call fails, the outcome that is due over the files that are held is what happens, unless memory runs out ..
-    ensures complete { IsTrue F.tells → (outcome : Outcome) → Due (F.contents files.old).held (map string_bytes words.now) outcome
+    ensures complete { IsTrue F.tells
+        → (outcome : Outcome) → Due (F.contents files.old).held (map string_bytes words.now) outcome
         → NoneFailed (F.tally files.old) (F.tally files.new)
-        → IsWhole outcome result.status F.tells (world (F.tally files.old) (F.contents files.old)) (world (F.tally files.new) (F.contents files.new)) ⊎ (result.status ≡ Status.NoMemory) }
+        → IsWhole outcome result.status F.tells
+        (world (F.tally files.old) (F.contents files.old)) (world (F.tally files.new) (F.contents files.new))
+        ⊎ (result.status ≡ Status.NoMemory) }
 
     // .. and what is refused is refused so, where no read fails.
-    ensures refused { IsTrue F.tells → (outcome : Outcome) → Due (F.contents files.old).held (map string_bytes words.now) outcome
+    ensures refused { IsTrue F.tells
+        → (outcome : Outcome) → Due (F.contents files.old).held (map string_bytes words.now) outcome
         → IsRefusal outcome.status
         → (Rose (F.tally files.old).read_faults (F.tally files.new).read_faults → ⊥)
         → (result.status ≡ outcome.status) ⊎ (result.status ≡ Status.NoMemory) }
@@ -61,7 +68,8 @@ pub fn run<R: Threads + Wait + Sync, F: Files, G: Gate + Sync>(
 
 /// The end of a run whose words can't be kept for want of memory.
 pub fn run_without_memory<F: Files>(files: &mut F) -> Report
-    ensures { IsOutOfMemory result.status F.tells (world (F.tally files.old) (F.contents files.old)) (world (F.tally files.new) (F.contents files.new)) }
+    ensures { IsOutOfMemory result.status F.tells
+        (world (F.tally files.old) (F.contents files.old)) (world (F.tally files.new) (F.contents files.new)) }
 {
     let _ = say_all(files, b"memory\n");
     Report {
@@ -70,7 +78,8 @@ pub fn run_without_memory<F: Files>(files: &mut F) -> Report
 }
 
 fn answer<F: Files>(alloc: Global, words: &[String], files: &mut F) -> Status
-    ensures { Ends (map string_bytes words.now) result F.tells (world (F.tally files.old) (F.contents files.old)) (world (F.tally files.new) (F.contents files.new)) }
+    ensures { Ends (map string_bytes words.now) result F.tells
+        (world (F.tally files.old) (F.contents files.old)) (world (F.tally files.new) (F.contents files.new)) }
 {
     match command_of(words) {
         Some(Command::Check(request)) => check(alloc, &request, files),
@@ -82,7 +91,8 @@ fn answer<F: Files>(alloc: Global, words: &[String], files: &mut F) -> Status
 }
 
 fn check<F: Files>(alloc: Global, request: &CheckRequest<'_>, files: &mut F) -> Status
-    ensures { CommandEnds (asked_check (request_of request.now)) result F.tells (world (F.tally files.old) (F.contents files.old)) (world (F.tally files.new) (F.contents files.new)) }
+    ensures { CommandEnds (asked_check (request_of request.now)) result F.tells
+        (world (F.tally files.old) (F.contents files.old)) (world (F.tally files.new) (F.contents files.new)) }
 {
     match decide_check(alloc, request, files) {
         Ok(ready) => write_results(files, ready),

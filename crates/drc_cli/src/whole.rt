@@ -9,7 +9,8 @@ use drc_ports::{Failed, Files};
 
 /// Says all of the bytes. Where a call fails a front of them was said, and the failure is handed on.
 pub fn say_all<F: Files>(files: &mut F, bytes: &[u8]) -> Result<(), Failed>
-    ensures { Tries F.tells (says bytes.now) result (world (F.tally files.old) (F.contents files.old)) (world (F.tally files.new) (F.contents files.new)) }
+    ensures { Tries F.tells (says bytes.now) result
+        (world (F.tally files.old) (F.contents files.old)) (world (F.tally files.new) (F.contents files.new)) }
 {
     let mut rest = bytes;
     while !rest.is_empty() {
@@ -26,7 +27,8 @@ pub fn say_all<F: Files>(files: &mut F, bytes: &[u8]) -> Result<(), Failed>
 pub fn write_all<F: Files>(files: &mut F, bytes: &[u8]) -> Result<(), Failed>
     requires writing { IsTrue (F.tally files.old).writing }
     ensures counts { F.tally files.new ≡ write_all_tally result (F.tally files.old) }
-    ensures written { IsTrue F.tells → (before : List ℕ) → (F.contents files.old).made (F.contents files.old).target ≡ Some before
+    ensures written { IsTrue F.tells → (before : List ℕ)
+        → (F.contents files.old).made (F.contents files.old).target ≡ Some before
         → WritesAll before bytes.now result (F.contents files.old) (F.contents files.new) }
 {
     let mut rest = bytes;

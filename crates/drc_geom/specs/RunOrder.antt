@@ -42,9 +42,10 @@ one_place_at E l o m p x y = (x, y)
 one_place_at W l o m p x y = (x, y)
 
 -- one side and one end: one line and one first column
-pub one_place : (s t : Side) (l o m p : ℤ) → s ≡ t → end_x s l o ≡ end_x t m p → end_y s l o ≡ end_y t m p → (l ≡ m) × (o ≡ p)
-one_place s t l o m p e =
-    subst (λ u. end_x s l o ≡ end_x u m p → end_y s l o ≡ end_y u m p → (l ≡ m) × (o ≡ p)) e (one_place_at s l o m p)
+pub one_place : (a b : Run) → a.side ≡ b.side → end_x a.side a.line a.lo ≡ end_x b.side b.line b.lo → end_y a.side a.line a.lo ≡ end_y b.side b.line b.lo → (a.line ≡ b.line) × (a.lo ≡ b.lo)
+one_place a b e =
+    subst (λ u. end_x a.side a.line a.lo ≡ end_x u b.line b.lo → end_y a.side a.line a.lo ≡ end_y u b.line b.lo → (a.line ≡ b.line) × (a.lo ≡ b.lo)) e
+    (one_place_at a.side a.line a.lo b.line b.lo)
 
 first_tied : (p q : Ordering) → ordering_then p q ≡ Equal → p ≡ Equal
 first_tied Less q e = e
@@ -71,7 +72,7 @@ same_high a b c d e f = omega (arith, ints)
 tied_parts : (a b : Run) → int_cmp (end_y a.side a.line a.lo) (end_y b.side b.line b.lo) ≡ Equal → int_cmp (end_x a.side a.line a.lo) (end_x b.side b.line b.lo) ≡ Equal → nat_cmp (side_rank a.side) (side_rank b.side) ≡ Equal → (a.side ≡ b.side) × (a.line ≡ b.line) × (a.lo ≡ b.lo)
 tied_parts a b y x r =
     let s : a.side ≡ b.side = same_side a.side b.side (nat_tied (side_rank a.side) (side_rank b.side) r) in
-    let place = one_place a.side b.side a.line a.lo b.line b.lo s (int_tied _ _ x) (int_tied _ _ y) in
+    let place = one_place a b s (int_tied _ _ x) (int_tied _ _ y) in
     (s, place.0, place.1)
 
 -- runs that run order ties are equal

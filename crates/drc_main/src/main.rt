@@ -5,7 +5,7 @@
 ghost use Rattle.std.specs.Prelude.{◌≡◌, ◌≢◌, [], IsErr, IfOk, IfErr, IsOkAnd, map, string_bytes};
 ghost use Rattle.std.specs.IoError.{error_kind};
 ghost use Rattle.drc_ports.specs.Files.{world};
-ghost use Rattle.drc_cli.specs.Run.{Ends, IsOutOfMemory};
+ghost use Rattle.drc_cli.specs.ProgramEnds.{Ends, IsOutOfMemory};
 
 use drc_cli::{Report, run, run_without_memory};
 use drc_ports::{Files, OpenGate, RealFiles};

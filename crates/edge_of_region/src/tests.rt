@@ -35,25 +35,13 @@ struct Figure<'a> {
     runs: &'a [Run],
 }
 
-fn row_of(alloc: Global, spans: &[Span]) -> Result<Row, AllocError> {
-    let mut row = Row::new(alloc);
-    for span in spans {
-        if span.lo < span.hi {
-            let mut one = Row::new(alloc);
-            one.push_end(span.lo, span.hi)?;
-            row = row.or(&one)?;
-        }
-    }
-    Ok(row)
-}
-
 // A line that doesn't lie above the one before it is left out.
 fn region_of(alloc: Global, lines: &[Line], top: i64) -> Result<Region, AllocError> {
     let mut builder = Builder::new(alloc);
     let mut last = i64::MIN;
     for line in lines {
         if last < line.y {
-            builder.rise(line.y, row_of(alloc, line.spans)?)?;
+            builder.rise(line.y, Row::gather(alloc, line.spans)?)?;
             last = line.y;
         }
     }
@@ -205,7 +193,7 @@ fn a_side_goes_on_past_a_line(rt: HostRuntime) -> Result<(), Fail> {
         OpenSide { line: 6, lo: 3 },
     ];
     let above = [OpenSide { line: 0, lo: 1 }, OpenSide { line: 4, lo: 5 }];
-    let row = row_of(rt.alloc(), &[span(0, 3), span(4, 7)])?;
+    let row = Row::gather(rt.alloc(), &[span(0, 3), span(4, 7)])?;
     let mut pieces = Vec::new(rt.alloc());
     let turned = turn(rt.alloc(), Side::W, 5, &below, &row, &mut pieces)?;
     assert_eq!(rt; turned.as_slice(), above.as_slice());

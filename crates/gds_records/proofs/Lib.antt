@@ -1,3 +1,6 @@
 pub mod Fronts
 pub mod Cutting
 mod Taking
+mod Powers
+mod RealSigns
+mod RealSizes

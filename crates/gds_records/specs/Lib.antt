@@ -3,4 +3,5 @@ pub mod Records
 pub mod LayoutKinds
 pub mod Stream
 pub mod Library
+pub mod Reals
 pub mod Working

@@ -1,6 +1,6 @@
 //! Cuts the records of a stream that comes in pieces.
 
-ghost use Rattle.std.specs.Prelude.{◌≡◌, ℕ, ◌+◌, ◌≤◌, [], ◌++◌, length, false, drop, OnOk, OnErr};
+ghost use Rattle.std.specs.Prelude.{◌≡◌, ℕ, ◌+◌, ◌≤◌, [], ◌++◌, ◌⊎◌, length, false, drop, OnOk, OnErr, IfOk, IfNone, IsTrue};
 ghost use Rattle.gds_records.specs.Records.{longest_layout};
 ghost use Rattle.gds_records.specs.Stream.{Stream, Takes, start_of_stream, truncation};
 ghost use Rattle.gds_records.specs.Working.Taking.{StartsWith};
@@ -64,7 +64,7 @@ impl Framer {
     fn let_go(&mut self)
         ensures { self.new ≡ self.old }
     {
-        let rest = self.buffer.len() - self.start;
+        let rest = self.pending();
         if self.start < rest {
             return;
         }
@@ -77,7 +77,9 @@ impl Framer {
     /// is below 4 or odd, or leads past the longest layout, is refused at its offset, now and from then on. But
     /// for a record that is given, nothing changes.
     pub fn take(&mut self) -> Result<Option<Record>, LayoutFault>
-        ensures { Takes self.old result self.new }
+        ensures taken { Takes self.old result self.new }
+        ensures little_left { IfOk result (λ taken. IfNone taken
+            (IsTrue self.new.ended ⊎ (length self.new.left ≤ 65533))) }
     {
         if self.ended {
             return Ok(None);
@@ -90,6 +92,13 @@ impl Framer {
         self.at += size as u64;
         self.ended = record.has_type(RecordType::EndLibrary);
         Ok(Some(record))
+    }
+
+    /// How many bytes were fed and not taken.
+    pub fn pending(&self) -> usize
+        ensures { result ≡ length self.now.left }
+    {
+        self.buffer.len() - self.start
     }
 
     /// Was ENDLIB taken?
@@ -106,9 +115,8 @@ impl Framer {
         if self.ended {
             return None;
         }
-        let left = self.buffer.len() - self.start;
         Some(LayoutRefusal {
-            at: self.at + left as u64,
+            at: self.at + self.pending() as u64,
             kind: LayoutKind::Truncated,
         })
     }
@@ -117,7 +125,8 @@ impl Framer {
 // The record at the front of the bytes, which begin at the offset.
 fn first_record(alloc: Global, at: u64, bytes: &[u8]) -> Result<Option<Record>, LayoutFault>
     requires { at ≤ longest_layout }
-    ensures { StartsWith at bytes.now result }
+    ensures starts { StartsWith at bytes.now result }
+    ensures little_left { IfOk result (λ found. IfNone found (length bytes.now ≤ 65533)) }
 {
     if bytes.len() < HEADER {
         return Ok(None);

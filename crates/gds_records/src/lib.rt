@@ -13,6 +13,7 @@
 mod data_form;
 mod fault;
 mod framer;
+mod real;
 mod record;
 mod record_type;
 mod stream;
@@ -20,6 +21,7 @@ mod stream;
 pub use data_form::DataForm;
 pub use fault::{LayoutFault, LayoutKind, LayoutRefusal};
 pub use framer::{Framer, LONGEST_LAYOUT};
+pub use real::Real8;
 pub use record::Record;
 pub use record_type::RecordType;
 pub use stream::records;

@@ -144,6 +144,7 @@ fn nothing_behind_the_end(rt: HostRuntime) -> Result<(), Fail> {
     framer.feed(&[1, 2, 0, 6])?;
     assert!(rt; framer.take()?.is_none());
     assert!(rt; framer.ended());
+    assert_eq!(rt; framer.pending(), 6);
     assert_eq!(rt; framer.end(), None);
     Ok(())
 }
@@ -185,4 +186,58 @@ fn numbers_and_words(rt: HostRuntime) {
         assert_eq!(rt; kind.number(), number);
         assert_eq!(rt; kind.word(), word);
     }
+}
+
+// From the format's form: a sign bit, seven bits of exponent in excess 64, 56 bits of fraction.
+#[test]
+fn reals(rt: HostRuntime) {
+    let table = [
+        ("0", [0, 0, 0, 0, 0, 0, 0, 0], Some(0)),
+        ("1", [0x41, 0x10, 0, 0, 0, 0, 0, 0], Some(1)),
+        (
+            "1, not normalized",
+            [0x43, 0x00, 0x10, 0, 0, 0, 0, 0],
+            Some(1),
+        ),
+        ("-90", [0xC2, 0x5A, 0, 0, 0, 0, 0, 0], Some(-90)),
+        ("minus 0", [0x80, 0, 0, 0, 0, 0, 0, 0], Some(0)),
+        ("1/2", [0x40, 0x80, 0, 0, 0, 0, 0, 0], None),
+        ("2^40", [0x4B, 0x10, 0, 0, 0, 0, 0, 0], Some(1 << 40)),
+        ("2^40 + 1", [0x4B, 0x10, 0, 0, 0, 0, 0x10, 0], None),
+        ("16^63", [0x7F, 0xFF, 0, 0, 0, 0, 0, 0], None),
+        ("16^-64", [0x00, 0x10, 0, 0, 0, 0, 0, 0], None),
+    ];
+    for (label, bytes, whole) in table {
+        assert_eq!(rt; Real8 { bytes }.whole(), whole, "{label}");
+    }
+}
+
+#[test]
+fn units(rt: HostRuntime) {
+    let thousandth = Real8 {
+        bytes: [0x3E, 0x41, 0x89, 0x37, 0x4B, 0xC6, 0xA7, 0xF0],
+    };
+    assert!(rt; thousandth.near_inverse(1000));
+    assert!(rt; !thousandth.near_inverse(1001));
+    let two_thousandth = Real8 {
+        bytes: [0x3E, 0x20, 0xC4, 0x9B, 0xA5, 0xE3, 0x53, 0xF8],
+    };
+    assert!(rt; two_thousandth.near_inverse(2000));
+    let one_256th = Real8 {
+        bytes: [0x3F, 0x10, 0, 0, 0, 0, 0, 0],
+    };
+    assert!(rt; one_256th.near_inverse(256));
+    // 1/1024 times 1 + 2^-30, and one bit more.
+    let last = Real8 {
+        bytes: [0x3F, 0x04, 0, 0, 0x00, 0x10, 0, 0],
+    };
+    assert!(rt; last.near_inverse(1024));
+    let too_great = Real8 {
+        bytes: [0x3F, 0x04, 0, 0, 0x00, 0x10, 0, 1],
+    };
+    assert!(rt; !too_great.near_inverse(1024));
+    let negative = Real8 {
+        bytes: [0xC1, 0x10, 0, 0, 0, 0, 0, 0],
+    };
+    assert!(rt; !negative.near_inverse(1));
 }

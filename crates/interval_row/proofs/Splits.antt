@@ -1,9 +1,10 @@
 -- A row that is cut at one of its spans: on either side of the span only that side has places.
-use Rattle.std.proofs.Common.{◌≡◌, true, false, ℕ, suc, ◌+◌, ◌<◌, length, take, drop, get_or, ℤ, ◌<ℤ◌, ◌≤ℤ◌, List, [], ◌∷◌, ◌++◌, ◌∙◌, ap, sym, subst, add-one, arith}
+use Rattle.std.proofs.Common.{◌≡◌, true, false, ◌||◌, ℕ, suc, ◌+◌, ◌<◌, length, take, drop, get_or, ℤ, ◌<ℤ◌, ◌≤ℤ◌, List, [], ◌∷◌, ◌++◌, ◌∙◌, refl, ap, sym, subst, add-one, arith}
 use Rattle.std.proofs.lemmas.Int.{ints}
 use Rattle.std.proofs.lemmas.List.{take-append-drop}
 use Rattle.std.proofs.Math.Seq.{drop-cons, take-suc}
 use Rattle.std.proofs.lemmas.Bool.{or_right}
+use Rattle.list_facts.specs.Between.{between}
 use Rattle.list_facts.proofs.Tests.{or_known, or_right_known}
 use Rattle.interval_row.specs.declared.span.Span.{Span}
 use Rattle.interval_row.specs.Rows.{has, BeginsAbove, IsRow, StandsBehind}
@@ -66,3 +67,9 @@ not_found_at l m x r e b =
     let c = subst IsRow (sym (take-append-drop m l)) r in
     let f : has (take m l ++ drop m l) x ≡ false = has_append (take m l) (drop m l) x ∙ (or_known _ _ (none_above (take m l) x e) ∙ none_below (drop m l) x (row_right (take m l) (drop m l) c) b) in
     sym (subst (λ t. has t x ≡ false) (take-append-drop m l) f)
+
+-- the places of one span more
+pub has_take_more : (l : List Span) (m : ℕ) (d : Span) (x : ℤ) → m < length l → has (take (m + 1) l) x ≡ (has (take m l) x || between (get_or l m d).lo (get_or l m d).hi x)
+has_take_more l m d x h =
+    let f : take (m + 1) l ≡ take m l ++ (get_or l m d ∷ []) = rw add-one (take-suc l m d h) in
+    ap (λ k. has k x) f ∙ has_append (take m l) (get_or l m d ∷ []) x ∙ ap (λ k. has (take m l) x || k) (or_right_known (between (get_or l m d).lo (get_or l m d).hi x) false refl)

@@ -1,6 +1,7 @@
 //! A row of spans, and what its callers see of it.
 
 ghost use Rattle.std.specs.Prelude.{◌≡◌, ◌<ℤ◌, ℤ, [], ◌∷◌, ◌++◌, ◌&&◌, ◌||◌, not, OnOk, OnErr, IfOk};
+ghost use Rattle.list_facts.specs.Between.{between};
 ghost use Rattle.list_facts.specs.EitherOr.{exactly_one};
 ghost use Rattle.interval_row.specs.Rows.{IsRow, StandsBehind, has};
 
@@ -38,6 +39,29 @@ impl Row {
             alloc,
             spans: Vec::new(alloc),
         }
+    }
+
+    /// The row of the places that some span has, in about as many steps for each span as the row has spans by then.
+    /// The spans may stand in any order, meet, and have no place. Only want of memory is an error.
+    pub fn gather(alloc: Global, spans: &[Span]) -> Result<Row, AllocError>
+        ensures { IfOk result (λ row. (x : ℤ) → has row x ≡ has spans.now x) }
+    {
+        let mut row = Row::new(alloc);
+        for &span in spans {
+            row = row.with(span)?;
+        }
+        Ok(row)
+    }
+
+    // The row with the places of one span more.
+    fn with(&self, span: Span) -> Result<Row, AllocError>
+        ensures { IfOk result (λ row. (x : ℤ) → has row x ≡ (has self.now x || between span.lo span.hi x)) }
+    {
+        let mut one = Row::new(self.alloc);
+        if span.lo < span.hi {
+            one.push_end(span.lo, span.hi)?;
+        }
+        self.or(&one)
     }
 
     /// Adds the places lo to hi - 1, which lie behind all others with a gap between.

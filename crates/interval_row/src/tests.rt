@@ -7,18 +7,6 @@ fn span(lo: i64, hi: i64) -> Span {
     Span { lo, hi }
 }
 
-fn row_of(alloc: Global, spans: &[Span]) -> Result<Row, AllocError> {
-    let mut row = Row::new(alloc);
-    for span in spans {
-        if span.lo < span.hi {
-            let mut one = Row::new(alloc);
-            one.push_end(span.lo, span.hi)?;
-            row = row.or(&one)?;
-        }
-    }
-    Ok(row)
-}
-
 /// Two rows, and what the four operations keep of them.
 #[derive(Clone, Copy)]
 struct Pair<'a> {
@@ -31,8 +19,8 @@ struct Pair<'a> {
 }
 
 fn check(rt: &impl Abort, alloc: Global, pair: Pair) -> Result<(), AllocError> {
-    let first = row_of(alloc, pair.first)?;
-    let second = row_of(alloc, pair.second)?;
+    let first = Row::gather(alloc, pair.first)?;
+    let second = Row::gather(alloc, pair.second)?;
     assert_eq!(rt; first.list(), pair.first);
     assert_eq!(rt; second.list(), pair.second);
     let both = first.and(&second)?;
@@ -112,7 +100,7 @@ fn more_pairs_of_rows(rt: HostRuntime) -> Result<(), Fail> {
 
 #[test]
 fn places_at_both_ends_of_spans(rt: HostRuntime) -> Result<(), Fail> {
-    let row = row_of(rt.alloc(), &[span(1, 3), span(5, 8)])?;
+    let row = Row::gather(rt.alloc(), &[span(1, 3), span(5, 8)])?;
     let table = [
         (0, false),
         (1, true),

@@ -5,7 +5,7 @@ use Rattle.std.proofs.lemmas.Bool.{cases_eq}
 use Rattle.std.specs.Prelude.{slice_get}
 use Rattle.layer_model.specs.declared.wiring.Wire.{Wire}
 use Rattle.layer_model.specs.Wirings.{place_of, input_from, IsWiring}
-use Rattle.layer_model.specs.Forms.{IsFormed, AllFormed, AllUsed}
+use Rattle.layer_model.specs.Working.Forms.{IsFormed, AllFormed, AllUsed}
 
 from_test : (a n : ℕ) → IsTrue (nat_lt a n) → a < n
 from_test a n t = grind (arith, nat_tests)

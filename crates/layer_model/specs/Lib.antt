@@ -1,2 +1,2 @@
 pub mod Wirings
-pub mod Forms
+pub mod Working

@@ -1,6 +1,6 @@
 -- Wirings: which operations read which. An operation is named by its number, which is its place in the list of wires.
 -- Its input places are 0 and 1, or 0 alone, or none.
-use Rattle.std.specs.Prelude.{◌≡◌, ◌⊎◌, ℕ, ◌+◌, ◌<◌, ◌^◌, Bool, true, false, ◌==◌, if◌then◌else◌, List, length, Option, None, Some, slice_get, sum_by, zero, suc}
+use Rattle.std.specs.Prelude.{◌≡◌, ◌⊎◌, ℕ, ◌+◌, ◌<◌, ◌^◌, Bool, true, false, ◌==◌, if◌then◌else◌, List, length, Option, None, Some, slice_get, slice_index, sum_by, zero, suc}
 use Rattle.layer_model.specs.declared.wiring.Wire.{Wire}
 
 -- the operation that a wire reads at place k
@@ -52,3 +52,8 @@ pub record IsWiring (ws : List Wire) : Type 0 where
   pub lower : (i k j : ℕ) → input ws i k ≡ Some j → j < i
   pub in_order : (i : ℕ) → input ws i 0 ≡ None → input ws i 1 ≡ None
   pub used : (i : ℕ) → i < length ws → (is_reported ws i ≡ true) ⊎ (0 < reader_count ws i)
+
+-- how many places read each operation, by operation
+pub record CountsReaders (ws : List Wire) (counts : List ℕ) : Type 0 where
+  pub all : length counts ≡ length ws
+  pub count : (j : ℕ) → j < length ws → slice_index counts j ≡ reader_count ws j

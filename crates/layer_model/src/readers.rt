@@ -1,8 +1,7 @@
 //! How many places read each operation.
 
 ghost use Rattle.std.specs.Prelude.{◌≡◌, ℕ, ◌+◌, ◌<◌, ◌^◌, IfOk, length, slice_index};
-ghost use Rattle.layer_model.specs.Wirings.{one_if_at};
-ghost use Rattle.layer_model.specs.Forms.{CountsReaders};
+ghost use Rattle.layer_model.specs.Wirings.{CountsReaders, one_if_at};
 
 use crate::wiring::Wire;
 use std::alloc::{AllocError, Global};

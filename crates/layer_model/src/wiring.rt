@@ -1,8 +1,8 @@
 //! Which operations read which.
 
 ghost use Rattle.std.specs.Prelude.{◌≡◌, ◌↔◌, IsTrue, IfOk, SomeIff};
-ghost use Rattle.layer_model.specs.Wirings.{IsWiring};
-ghost use Rattle.layer_model.specs.Forms.{AllFormed, AllUsed, CountsReaders, IsFormed};
+ghost use Rattle.layer_model.specs.Wirings.{CountsReaders, IsWiring};
+ghost use Rattle.layer_model.specs.Working.Forms.{AllFormed, AllUsed, IsFormed};
 
 use crate::readers::reader_counts;
 use std::alloc::{AllocError, Global};

@@ -21,25 +21,13 @@ fn cut<'a>(y0: i64, y1: i64, row: &'a [Span]) -> Piece<'a> {
     Piece { y0, y1, row }
 }
 
-fn row_of(alloc: Global, spans: &[Span]) -> Result<Row, AllocError> {
-    let mut row = Row::new(alloc);
-    for span in spans {
-        if span.lo < span.hi {
-            let mut one = Row::new(alloc);
-            one.push_end(span.lo, span.hi)?;
-            row = row.or(&one)?;
-        }
-    }
-    Ok(row)
-}
-
 // The region of ascending pieces.
 fn region_of(alloc: Global, pieces: &[Piece]) -> Result<Region, AllocError> {
     let mut region = Region::new(alloc);
     let mut top = i64::MIN;
     for piece in pieces {
         if top <= piece.y0 && piece.y0 < piece.y1 {
-            let row = row_of(alloc, piece.row)?;
+            let row = Row::gather(alloc, piece.row)?;
             push_band(
                 &mut region,
                 Band {

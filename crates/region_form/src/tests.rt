@@ -31,25 +31,13 @@ struct Figure<'a> {
     flips: &'a [Flip],
 }
 
-fn row_of(alloc: Global, spans: &[Span]) -> Result<Row, AllocError> {
-    let mut row = Row::new(alloc);
-    for span in spans {
-        if span.lo < span.hi {
-            let mut one = Row::new(alloc);
-            one.push_end(span.lo, span.hi)?;
-            row = row.or(&one)?;
-        }
-    }
-    Ok(row)
-}
-
 // A line that doesn't lie above the one before it is left out.
 fn region_of(alloc: Global, lines: &[Line], top: i64) -> Result<Region, AllocError> {
     let mut builder = Builder::new(alloc);
     let mut last = i64::MIN;
     for line in lines {
         if last < line.y {
-            builder.rise(line.y, row_of(alloc, line.spans)?)?;
+            builder.rise(line.y, Row::gather(alloc, line.spans)?)?;
             last = line.y;
         }
     }

@@ -5,7 +5,7 @@ use Rattle.drc_cli.specs.declared.answer.Status.{Status}
 use Rattle.drc_cli.specs.Command.{Command}
 use Rattle.drc_cli.specs.Meaning.{Leads}
 use Rattle.drc_cli.specs.Outcome.{Outcome}
-use Rattle.drc_cli.specs.Run.{EndsAs, IsOutOfMemory}
+use Rattle.drc_cli.specs.ProgramEnds.{EndsAs, IsOutOfMemory}
 
 abbrev pub CommandEnds : Command → Status → (tells : Bool) → World → World → Type 0
 CommandEnds command answer tells old new =

@@ -19,7 +19,7 @@ use Rattle.drc_cli.specs.Deck.{precision, limit, longest_deck}
 use Rattle.drc_cli.specs.Layout.{Element, Accepts, Refuses, drawn}
 use Rattle.drc_cli.specs.Lines.{deck_line, layout_line}
 use Rattle.drc_cli.specs.Outcome.{Outcome, Step, reads, writes, says}
-use Rattle.drc_cli.specs.Run.{OnlyReads}
+use Rattle.drc_cli.specs.ProgramEnds.{OnlyReads}
 use Rattle.drc_cli.specs.ShortRuns.{IsShortRun}
 use Rattle.drc_cli.specs.Steps.{IsDone, AreDone, Fails}
 use Rattle.drc_cli.specs.Text.{CheckResults, run, results_text, said_text}

@@ -24,7 +24,8 @@ pub fn read_all<F: Files>(
     requires started { IsTrue (F.tally files.old).started }
     requires fresh { IsWanting (sought primary.now number) [] reader.old }
     ensures stopped { ReadsAll (sought primary.now number) F.tells (F.contents files.old).left result reader.new.rects.items }
-    ensures same { IsTrue F.tells → F.contents files.new ≡ record (F.contents files.old) { left = (F.contents files.new).left } }
+    ensures same { IsTrue F.tells
+        → F.contents files.new ≡ record (F.contents files.old) { left = (F.contents files.new).left } }
     ensures counts { F.tally files.new ≡ reading_tally result (F.tally files.old) }
 {
     let mut piece = buffer(alloc)?;
@@ -42,7 +43,8 @@ fn read_pieces<F: Files>(
     requires room { 0 < length piece.old }
     requires fresh { IsWanting (sought primary.now number) [] reader.old }
     ensures stopped { ReadsAll (sought primary.now number) F.tells (F.contents files.old).left result reader.new.rects.items }
-    ensures same { IsTrue F.tells → F.contents files.new ≡ record (F.contents files.old) { left = (F.contents files.new).left } }
+    ensures same { IsTrue F.tells
+        → F.contents files.new ≡ record (F.contents files.old) { left = (F.contents files.new).left } }
     ensures counts { F.tally files.new ≡ reading_tally result (F.tally files.old) }
 {
     for _turn in 0..PIECES {
@@ -67,7 +69,8 @@ fn read_piece<F: Files>(
     ensures read { (fed : List ℕ) → IsWanting (sought primary.now number) fed reader.old
         → ReadsPiece (sought primary.now number) fed
         (record { tells = F.tells; before = (F.contents files.old).left; now = (F.contents files.new).left }) result reader.new }
-    ensures same { IsTrue F.tells → F.contents files.new ≡ record (F.contents files.old) { left = (F.contents files.new).left } }
+    ensures same { IsTrue F.tells
+        → F.contents files.new ≡ record (F.contents files.old) { left = (F.contents files.new).left } }
     ensures counts { F.tally files.new ≡ piece_tally result (F.tally files.old) }
 {
     let Ok(count) = files.read(piece) else {

@@ -113,10 +113,12 @@ impl Reader {
     fn accept(&mut self, taken: &Record, primary: &[u8], number: u16) -> Result<bool, AllocError>
         ensures framer { self.new.framer ≡ self.old.framer }
         ensures stands { IfOk result (λ stood. IsTrue stood → Stands primary.now self.old.slot (item_of taken.now)) }
-        ensures slot { IfOk result (λ stood. IsTrue stood → self.new.slot ≡ following self.old.slot (item_of taken.now)) }
+        ensures slot { IfOk result (λ stood. IsTrue stood
+            → self.new.slot ≡ following self.old.slot (item_of taken.now)) }
         ensures rects { IfOk result (λ stood. IsTrue stood
             → self.new.rects.items ≡ self.old.rects.items ++ rects_on number (elements_at self.old.slot (item_of taken.now))) }
-        ensures refused { IfOk result (λ stood. stood ≡ false → Stands primary.now self.old.slot (item_of taken.now) → ⊥) }
+        ensures refused { IfOk result (λ stood. stood ≡ false
+            → Stands primary.now self.old.slot (item_of taken.now) → ⊥) }
         ensures same { IfOk result (λ stood. stood ≡ false → self.new ≡ self.old) }
     {
         if !self.slot.stands(taken, primary) {

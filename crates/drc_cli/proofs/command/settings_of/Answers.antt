@@ -1,4 +1,4 @@
-use Rattle.std.proofs.Common.{◌≡◌, ℕ, List, [], ◌∷◌, ◌++◌, length, string_bytes, subst}
+use Rattle.std.proofs.Common.{List, [], ◌∷◌, ◌++◌, length, string_bytes, subst}
 use Rattle.drc_cli.specs.Command.{Setting, AreServed}
 use Rattle.drc_cli.proofs.Settings.{read_one_more, must_have, not_half, some_left}
 use Rattle.drc_cli.proofs.command.settings_of.Goals as goal

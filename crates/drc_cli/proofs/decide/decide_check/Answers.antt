@@ -1,4 +1,3 @@
-use Rattle.std.proofs.Common.{sym, ◌∙◌}
 use Rattle.drc_ports.specs.Files.{world}
 use Rattle.drc_cli.specs.Working.CommandView.{request_of}
 use Rattle.drc_cli.proofs.Decided.{deck_ended, deck_unserved, layout_ended, ready_to_write}

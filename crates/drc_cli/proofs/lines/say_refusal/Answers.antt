@@ -1,4 +1,4 @@
-use Rattle.std.proofs.Common.{List, ℕ, ◌++◌, ◌∙◌}
+use Rattle.std.proofs.Common.{◌++◌, ◌∙◌}
 use Rattle.std.specs.Prelude.{codes, decimal}
 use Rattle.drc_ports.specs.Files.{world}
 use Rattle.drc_cli.specs.Working.Endings.{refusal_of}

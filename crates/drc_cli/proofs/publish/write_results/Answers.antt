@@ -1,11 +1,11 @@
-use Rattle.std.proofs.Common.{◌≡◌, List, ℕ, ◌++◌, string_bytes, subst, ap, sym, ◌∙◌}
+use Rattle.std.proofs.Common.{◌≡◌, List, ℕ, ◌++◌, string_bytes, subst, sym, ◌∙◌}
 use Rattle.std.specs.Prelude.{codes}
 use Rattle.drc_ports.specs.Files.{world}
 use Rattle.drc_cli.specs.declared.answer.Which.TheVariants as which
 use Rattle.drc_cli.specs.declared.answer.Status.{Status}
 use Rattle.drc_cli.specs.declared.answer.Status.TheVariants as status
 use Rattle.drc_cli.specs.Outcome.{writes, says}
-use Rattle.drc_cli.specs.Run.{EndsAs}
+use Rattle.drc_cli.specs.ProgramEnds.{EndsAs}
 use Rattle.drc_cli.specs.Working.Decide.{last_steps}
 use Rattle.drc_cli.specs.Steps.{IsDone, Fails}
 use Rattle.drc_cli.specs.Working.Tries.{Tries}

@@ -1,4 +1,3 @@
-use Rattle.std.proofs.Common.{map, string_bytes}
 use Rattle.drc_ports.specs.Files.{world}
 use Rattle.drc_cli.proofs.Ended.{words_refused}
 use Rattle.drc_cli.proofs.top.answer.Goals as goal

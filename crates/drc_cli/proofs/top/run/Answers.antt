@@ -1,5 +1,5 @@
 use Rattle.drc_ports.specs.Files.{world}
-use Rattle.drc_cli.proofs.RunLaws.{says_words, must_say_words, has_results, unmade, complete, refused}
+use Rattle.drc_cli.proofs.EndLaws.{says_words, must_say_words, has_results, unmade, complete, refused}
 use Rattle.drc_cli.proofs.top.run.Goals as goal
 
 pub returns-clause-words : goal.returns-clause-words

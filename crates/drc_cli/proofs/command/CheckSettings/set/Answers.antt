@@ -1,4 +1,4 @@
-use Rattle.std.proofs.Common.{rules, ◌≡◌, true, false, List, [], ◌∷◌, Option, Some, None, IsTrue, sym, ap, subst, ◌∙◌}
+use Rattle.std.proofs.Common.{rules, ◌≡◌, true, false, None, IsTrue, sym, ap, subst, ◌∙◌}
 use Rattle.std.specs.Prelude.{codes, Bool}
 use Rattle.drc_cli.specs.Command.{Setting, value_in}
 use Rattle.drc_cli.proofs.Settings.{served_more, served_at, date_more, date_free, copied_none, copied_some}

@@ -1,8 +1,8 @@
-use Rattle.std.proofs.Common.{◌≡◌, subst, refl}
+use Rattle.std.proofs.Common.{◌≡◌, subst}
 use Rattle.std.specs.Prelude.{Option, Ok}
 use Rattle.drc_cli.specs.declared.layout.reader.Stop.{Stop}
 use Rattle.drc_cli.specs.Working.LayoutReading.{Sought, Left, ReadsPiece, piece_tally}
-use Rattle.drc_cli.proofs.LayoutPieces.{Turns, stops, goes_further}
+use Rattle.drc_cli.proofs.LayoutPieces.{stops, goes_further}
 use Rattle.drc_cli.proofs.layout.pieces.read_pieces.Goals as goal
 
 pub returns-in-Some-clause-stopped : goal.returns-in-Some-clause-stopped

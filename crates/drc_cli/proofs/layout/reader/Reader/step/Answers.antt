@@ -11,7 +11,7 @@ pub returns-then-branch-clause-taken : goal.returns-then-branch-clause-taken
 returns-then-branch-clause-taken c = λ fed items state.
     let of : Sought = record { primary = c.args.primary.now; number = c.args.number } in
     let item = item_of c.in-Ok-Some.taken in
-    let took = rw c.in-Ok-Some.field-0-is at c.in-Ok-Some.ensures in
+    let took = rw c.in-Ok-Some.field-0-is at c.in-Ok-Some.ensures.taken in
     let went = c.in_ok-accept-in-Ok-Some.ensures in
     let yes : IsTrue c.in_ok-accept-in-Ok-Some.field-0 = search rules in
     let same = c.accept.ensures.framer in (
@@ -25,7 +25,7 @@ pub returns-in-Ok-Some-clause-taken : goal.returns-in-Ok-Some-clause-taken
 returns-in-Ok-Some-clause-taken c = λ fed items state.
     let of : Sought = record { primary = c.args.primary.now; number = c.args.number } in
     let item = item_of c.in-Ok-Some.taken in
-    let took = rw c.in-Ok-Some.field-0-is at c.in-Ok-Some.ensures in
+    let took = rw c.in-Ok-Some.field-0-is at c.in-Ok-Some.ensures.taken in
     let went = c.in_ok-accept-in-Ok-Some.ensures in
     let P : Reader → Type 0 = λ r. (more : List ℕ) → HasStopped of (fed ++ more) r.rects.items (Refused (record { at = item.at; kind = kinds.NotBuilt })) in
     let stopped = when_not_built of fed items c.args.self.now state item c.take.new.self.left took.0 took.1 took.2 took.3 (went.refused c.if-branch.false) in

@@ -1,7 +1,5 @@
-use Rattle.std.proofs.Common.{ℕ, List, subst}
+use Rattle.std.proofs.Common.{subst}
 use Rattle.std.specs.Prelude.{Ok}
-use Rattle.gds_records.specs.Records.{Item}
-use Rattle.drc_cli.specs.declared.layout.reader.Reader.{Reader}
 use Rattle.drc_cli.specs.declared.layout.reader.Step.{Step}
 use Rattle.drc_cli.specs.Working.LayoutReading.{Sought, Steps}
 use Rattle.drc_cli.proofs.layout.reader.Reader.take_all.Goals as goal

@@ -1,5 +1,5 @@
--- These are working words: the form of a wiring, wire by wire.
-use Rattle.std.specs.Prelude.{◌≡◌, ◌⊎◌, ℕ, ◌<◌, true, List, length, None, Some, slice_get, slice_index}
+-- The form of a wiring, wire by wire.
+use Rattle.std.specs.Prelude.{◌≡◌, ◌⊎◌, ℕ, ◌<◌, true, List, length, None, Some, slice_get}
 use Rattle.layer_model.specs.declared.wiring.Wire.{Wire}
 use Rattle.layer_model.specs.Wirings.{place_of, is_reported, reader_count}
 
@@ -13,8 +13,3 @@ AllFormed ws = (i : ℕ) (w : Wire) → slice_get ws i ≡ Some w → IsFormed w
 
 abbrev pub AllUsed : List Wire → Type 0
 AllUsed ws = (i : ℕ) → i < length ws → (is_reported ws i ≡ true) ⊎ (0 < reader_count ws i)
-
--- the counts of the readers, by operation
-pub record CountsReaders (ws : List Wire) (counts : List ℕ) : Type 0 where
-  pub all : length counts ≡ length ws
-  pub count : (j : ℕ) → j < length ws → slice_index counts j ≡ reader_count ws j

@@ -1,0 +1,3 @@
+mod Sorting
+mod RunLists
+pub mod Bounds
