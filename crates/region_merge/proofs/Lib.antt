@@ -1,6 +1,1 @@
-pub mod Fronts
-pub mod NextLine
-pub mod Weaving
-pub mod Drawn
-pub mod Sorting
-pub mod Sweeping
+mod Overlapping

@@ -4,12 +4,12 @@ ghost use Rattle.std.specs.Prelude.{◌≡◌, ℤ, IfOk};
 ghost use Rattle.std.specs.List.{AllByRecursion};
 ghost use Rattle.drc_geom.specs.Squares.{IsRect, covered};
 ghost use Rattle.region_form.specs.Flips.{squares};
-ghost use Rattle.region_merge.specs.Opening.{Rises};
 
-use crate::line::{begun_by, next_line};
-use crate::standing::Standing;
+use crate::overlaps::Overlaps;
+use crate::sides::{in_order, lower_sides, upper_sides};
 use drc_geom::Rect;
-use region_form::{Builder, Region};
+use region_form::Region;
+use region_sweep::sweep;
 use std::alloc::{AllocError, Global};
 
 /// The squares that some rectangle covers. The rectangles may stand in any order, touch, overlap and repeat. Only want
@@ -18,25 +18,10 @@ pub fn merge(alloc: Global, rects: &[Rect]) -> Result<Region, AllocError>
     requires { AllByRecursion IsRect rects.now }
     ensures { IfOk result (λ region. (x y : ℤ) → squares region x y ≡ covered rects.now x y) }
 {
-    let mut rising = Vec::from_slice(alloc, rects)?;
-    rising.sort_unstable_by_key(|r| (r.y0, r.x0));
-    sweep(alloc, &rising)
-}
-
-// Sweeps up over rectangles that rise.
-fn sweep(alloc: Global, rects: &[Rect]) -> Result<Region, AllocError>
-    requires areas { AllByRecursion IsRect rects.now }
-    requires rise { Rises rects.now }
-    ensures { IfOk result (λ region. (x y : ℤ) → squares region x y ≡ covered rects.now x y) }
-{
-    let mut builder = Builder::new(alloc);
-    let mut standing = Standing::new(alloc);
-    let mut rest = rects;
-    while let Some(line) = next_line(rest, standing.rects()) {
-        let (begun, later) = rest.split_at(begun_by(rest, line));
-        standing.pass(line, begun)?;
-        builder.rise(line, standing.row(alloc)?)?;
-        rest = later;
-    }
-    Ok(builder.finish())
+    let lower = lower_sides(alloc, rects)?;
+    let begun = in_order(lower);
+    let upper = upper_sides(alloc, rects)?;
+    let ended = in_order(upper);
+    let region = sweep(alloc, &begun, &ended, &Overlaps)?;
+    Ok(region)
 }

@@ -8,17 +8,14 @@
 //!     +-----+                 +-----+
 //! ```
 //!
-//! A line sweeps up over the rectangles and stops where one begins or ends. Those that it crosses there stand open, by
-//! their left sides, so one pass over them gives the row above the line.
+//! The sides of the rectangles are swept, those where one begins and those where one ends: the value of a column is how
+//! many rectangles cross it, and it is inside where that isn't 0.
 #![tactic(auto)]
 
 mod cover;
-mod line;
-mod span_pen;
-mod standing;
+mod overlaps;
+mod sides;
 #[cfg(test)]
 mod tests;
-mod union_row;
-mod weave;
 
 pub use cover::merge;

@@ -1,21 +1,33 @@
-use Rattle.std.proofs.Common.{rules, subst, sym}
-use Rattle.std.proofs.lemmas.Fn.{always_returns_same}
-use Rattle.drc_geom.specs.Squares.{IsRect}
-use Rattle.region_merge.specs.Opening.{Rises}
-use Rattle.region_merge.proofs.Sorting.{all_moved, answer_moved, moved_along, rises_from_sort}
+use Rattle.std.proofs.Common.{◌≡◌, eqb, not, sym, subst, ap, ◌∙◌}
+use Rattle.region_sweep.specs.Counts.{AreWide, Rise, times, times_up_to}
+use Rattle.region_merge.specs.Working.Overlaps.{open_count}
+use Rattle.region_merge.proofs.Overlapping.{all_end, inside_covered, lower_wide, none_open, times_moved, up_to_moved, upper_wide, wide_moved}
 use Rattle.region_merge.proofs.cover.merge.Goals as goal
 
-pub sweep-requires-clause-areas : goal.sweep-requires-clause-areas
-sweep-requires-clause-areas c =
-    let moves = moved_along c.args.rects.now _ _ c.deref.result.now c.in_ok-rising.ensures.items c.deref.ensures.value c.sort_unstable_by_key.ensures.permutation in
-    all_moved IsRect _ _ moves c.requires
+pub sweep-requires-clause-first_rises : goal.sweep-requires-clause-first_rises
+sweep-requires-clause-first_rises c = subst Rise (sym c.deref.ensures.value) c.in_order-begun.ensures.rise
 
-pub sweep-requires-clause-rise : goal.sweep-requires-clause-rise
-sweep-requires-clause-rise c =
-    let up = c.sort_unstable_by_key.ensures.sorted (λ r. (r.y0, r.x0)) (always_returns_same _ _ _ (λ a r f k. search rules)) in
-    subst Rises (sym c.deref.ensures.value) (rises_from_sort _ up)
+pub sweep-requires-clause-second_rises : goal.sweep-requires-clause-second_rises
+sweep-requires-clause-second_rises c = subst Rise (sym c.deref-2.ensures.value) c.in_order-ended.ensures.rise
+
+pub sweep-requires-clause-first_wide : goal.sweep-requires-clause-first_wide
+sweep-requires-clause-first_wide c =
+    subst AreWide (sym c.deref.ensures.value) (wide_moved c.in_ok-lower.lower.items c.in_order-begun.result.items c.in_order-begun.ensures.sides (subst AreWide (sym c.in_ok-lower.ensures.sides) (lower_wide c.args.rects.now c.requires)))
+
+pub sweep-requires-clause-second_wide : goal.sweep-requires-clause-second_wide
+sweep-requires-clause-second_wide c =
+    subst AreWide (sym c.deref-2.ensures.value) (wide_moved c.in_ok-upper.upper.items c.in_order-ended.result.items c.in_order-ended.ensures.sides (subst AreWide (sym c.in_ok-upper.ensures) (upper_wide c.args.rects.now c.requires)))
+
+pub sweep-requires-clause-closed : goal.sweep-requires-clause-closed
+sweep-requires-clause-closed c =
+    λ x.
+    let begun = ap (λ fs. times fs x) c.deref.ensures.value ∙ (times_moved c.in_ok-lower.lower.items c.in_order-begun.result.items x c.in_order-begun.ensures.sides ∙ ap (λ fs. times fs x) c.in_ok-lower.ensures.sides) in
+    let ended = ap (λ fs. times fs x) c.deref-2.ensures.value ∙ (times_moved c.in_ok-upper.upper.items c.in_order-ended.result.items x c.in_order-ended.ensures.sides ∙ ap (λ fs. times fs x) c.in_ok-upper.ensures) in
+    ap (λ n. not (eqb (open_count n (times c.deref-2.result.now x)) 0)) (begun ∙ (all_end c.args.rects.now x ∙ sym ended)) ∙ none_open (times c.deref-2.result.now x)
 
 pub returns : goal.returns
 returns c =
-    let moves = moved_along c.args.rects.now _ _ c.deref.result.now c.in_ok-rising.ensures.items c.deref.ensures.value c.sort_unstable_by_key.ensures.permutation in
-    answer_moved c.sweep.result c.args.rects.now c.deref.result.now moves c.sweep.ensures
+    λ x y.
+    let begun = ap (λ fs. times_up_to fs x y) c.deref.ensures.value ∙ (up_to_moved c.in_ok-lower.lower.items c.in_order-begun.result.items x y c.in_order-begun.ensures.sides ∙ ap (λ fs. times_up_to fs x y) c.in_ok-lower.ensures.sides) in
+    let ended = ap (λ fs. times_up_to fs x y) c.deref-2.ensures.value ∙ (up_to_moved c.in_ok-upper.upper.items c.in_order-ended.result.items x y c.in_order-ended.ensures.sides ∙ ap (λ fs. times_up_to fs x y) c.in_ok-upper.ensures) in
+    c.in_ok-region.ensures x y ∙ inside_covered c.args.rects.now x y _ _ c.requires c.in_ok-lower.ensures.bound begun ended

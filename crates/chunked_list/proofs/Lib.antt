@@ -1,0 +1,3 @@
+pub mod Stretches
+mod Places
+mod Orders

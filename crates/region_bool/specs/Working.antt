@@ -1,0 +1,2 @@
+-- Working words: of the evaluator of the booleans. No clause of a public function reaches them.
+pub mod Tables

@@ -1,0 +1,152 @@
+-- The rectangles that cover a square are those that have begun in its column and not ended.
+use Rattle.std.proofs.Common.{◌≡◌, ◌⊎◌, inl, inr, Bool, true, false, not, ◌&&◌, ◌||◌, cond, eqb, ℕ, zero, suc, ◌+◌, ◌*◌, ◌-◌, ◌%◌, ◌^◌, ◌<◌, ◌≤◌, ℤ, ◌<ℤ◌, ◌≤ℤ◌, int_le, int_lt, List, [], ◌∷◌, length, lit<, get_or, refl, sym, subst, ap, ◌∙◌, arith}
+use Rattle.std.proofs.lemmas.Bool.Decides.{eqb_tells}
+use Rattle.std.proofs.lemmas.Cmp.{int_cmp_total, on_total, then_total}
+use Rattle.std.proofs.lemmas.Int.{ints, by_lt_z}
+use Rattle.std.proofs.Math.Nat.{mul-suc}
+use Rattle.std.proofs.lemmas.Nat.{mod-mul-add}
+use mathlib.Core.Bool.{true≢false}
+use Rattle.std.proofs.lemmas.List.Elements.{recursion_from_All}
+use Rattle.std.proofs.lemmas.List.Sorted.{IsPermutation-sym, ranks_by, sorted_far, sum_by-IsPermutation}
+use Rattle.std.proofs.lemmas.List.Sums.{sum_by-cons}
+use Rattle.std.specs.List.{AllPairs, AllByRecursion, sum_by}
+use Rattle.std.specs.List.Sorted.{IsPermutation, IsSortedByKey}
+use Rattle.std.specs.Ordering.{int_cmp, is_lt, ordering_then}
+use Rattle.list_facts.specs.Between.{between}
+use Rattle.list_facts.proofs.Members.{all_permuted}
+use Rattle.list_facts.proofs.Tests.{le_false, le_from_true, le_true, lt_false, lt_true}
+use Rattle.drc_geom.specs.declared.rect.Rect.{Rect}
+use Rattle.drc_geom.specs.Squares.{IsRect, covered, squares_of}
+use Rattle.region_form.specs.declared.flip.Flip.{Flip}
+use Rattle.region_form.specs.Flips.{changes}
+use Rattle.region_sweep.specs.Counts.{AreWide, Rise, times, times_up_to}
+use Rattle.region_merge.specs.Working.Overlaps.{open_count}
+use Rattle.region_merge.specs.Working.Sides.{lower_sides, upper_sides}
+
+-- ---- a sort makes sides rise
+
+rise_from_pairs : (fs : List Flip) → AllPairs (λ f g. f.y ≤ℤ g.y) fs → Rise fs
+rise_from_pairs [] h = tt
+rise_from_pairs (f ∷ fs) h = (
+  recursion_from_All (λ g. f.y ≤ℤ g.y) fs (λ k d lt. h 0 (suc k) d (omega arith) (omega arith)),
+  rise_from_pairs fs (λ i j d lt less. h (suc i) (suc j) d (omega arith) (omega arith)),
+)
+
+not_first : (y0 x0 y1 x1 : ℤ) → is_lt (ordering_then (int_cmp y1 y0) (int_cmp x1 x0)) ≡ false → y0 ≤ℤ y1
+not_first y0 x0 y1 x1 h = by_lt_z y1 y0 (λ l. absurd (grind (arith, ints))) (λ l. l)
+
+pub rise_from_sort : (fs : List Flip) → IsSortedByKey {K = ℤ × ℤ} (λ f. (f.y, f.x0)) (λ a b. ordering_then (int_cmp a.0 b.0) (int_cmp a.1 b.1)) fs → Rise fs
+rise_from_sort fs up =
+    rise_from_pairs fs (λ i j d lt less.
+    let a = get_or fs i d in
+    let b = get_or fs j d in
+    not_first a.y a.x0 b.y b.x0
+    (sorted_far (λ (a : Flip) (b : Flip). is_lt (ordering_then (int_cmp a.y b.y) (int_cmp a.x0 b.x0)))
+    (ranks_by (then_total (on_total (λ (t : ℤ × ℤ). t.0) int_cmp_total) (on_total (λ (t : ℤ × ℤ). t.1) int_cmp_total)) (λ (f : Flip). (f.y, f.x0)))
+    fs up i j d (omega arith) less))
+
+-- ---- counts of moved lists
+
+as_sum : (b : Bool) (n : ℕ) → cond b (n + 1) n ≡ cond b 1 0 + n
+as_sum true n = omega arith
+as_sum false n = omega arith
+
+times_sum : (fs : List Flip) (x : ℤ) → times fs x ≡ sum_by (λ f. cond (changes f x) 1 0) fs
+times_sum [] x = refl
+times_sum (f ∷ fs) x =
+    ap (λ n. cond (changes f x) (n + 1) n) (times_sum fs x)
+    ∙ (as_sum (changes f x) (sum_by (λ f. cond (changes f x) 1 0) fs) ∙ sym (sum_by-cons (λ f. cond (changes f x) 1 0) f fs))
+
+up_to_sum : (fs : List Flip) (x y : ℤ) → times_up_to fs x y ≡ sum_by (λ f. cond (int_le f.y y && changes f x) 1 0) fs
+up_to_sum [] x y = refl
+up_to_sum (f ∷ fs) x y =
+    ap (λ n. cond (int_le f.y y && changes f x) (n + 1) n) (up_to_sum fs x y)
+    ∙ (as_sum (int_le f.y y && changes f x) (sum_by (λ f. cond (int_le f.y y && changes f x) 1 0) fs) ∙ sym (sum_by-cons (λ f. cond (int_le f.y y && changes f x) 1 0) f fs))
+
+pub times_moved : (fs gs : List Flip) (x : ℤ) → IsPermutation fs gs → times gs x ≡ times fs x
+times_moved fs gs x p = times_sum gs x ∙ (sum_by-IsPermutation (λ f. cond (changes f x) 1 0) fs gs p ∙ sym (times_sum fs x))
+
+pub up_to_moved : (fs gs : List Flip) (x y : ℤ) → IsPermutation fs gs → times_up_to gs x y ≡ times_up_to fs x y
+up_to_moved fs gs x y p = up_to_sum gs x y ∙ (sum_by-IsPermutation (λ f. cond (int_le f.y y && changes f x) 1 0) fs gs p ∙ sym (up_to_sum fs x y))
+
+pub wide_moved : (fs gs : List Flip) → IsPermutation fs gs → AreWide fs → AreWide gs
+wide_moved fs gs p a = all_permuted (λ (f : Flip). f.x0 <ℤ f.x1) fs gs p a
+
+pub lower_wide : (rs : List Rect) → AllByRecursion IsRect rs → AreWide (lower_sides rs)
+lower_wide [] a = tt
+lower_wide (r ∷ rs) a = (a.0.wide, lower_wide rs a.1)
+
+pub upper_wide : (rs : List Rect) → AllByRecursion IsRect rs → AreWide (upper_sides rs)
+upper_wide [] a = tt
+upper_wide (r ∷ rs) a = (a.0.wide, upper_wide rs a.1)
+
+-- ---- how many rectangles cover a square
+
+abbrev cover_count : List Rect → ℤ → ℤ → ℕ
+cover_count [] x y = 0
+cover_count (r ∷ rs) x y = cond (squares_of r x y) (cover_count rs x y + 1) (cover_count rs x y)
+
+sides_step : (p q c : Bool) (n m k : ℕ) → (q ≡ true → p ≡ true) → n ≡ m + k → cond (p && c) (n + 1) n ≡ cond (q && c) (m + 1) m + cond (c && (p && not q)) (k + 1) k
+sides_step true true true n m k h e = omega arith
+sides_step true true false n m k h e = e
+sides_step true false true n m k h e = omega arith
+sides_step true false false n m k h e = e
+sides_step false true c n m k h e = absurd (true≢false (sym (h refl)))
+sides_step false false true n m k h e = e
+sides_step false false false n m k h e = e
+
+not_le : (a y : ℤ) → not (int_le a y) ≡ int_lt y a
+not_le a y = by_lt_z y a (λ l. ap not (le_false a y l) ∙ sym (lt_true y a l)) (λ l. ap not (le_true a y l) ∙ sym (lt_false y a l))
+
+pub begun_and_ended : (rs : List Rect) (x y : ℤ) → AllByRecursion IsRect rs → times_up_to (lower_sides rs) x y ≡ times_up_to (upper_sides rs) x y + cover_count rs x y
+begun_and_ended [] x y a = refl
+begun_and_ended (r ∷ rs) x y a =
+    let high : r.y0 <ℤ r.y1 = a.0.high in
+    sides_step (int_le r.y0 y) (int_le r.y1 y) (between r.x0 r.x1 x) (times_up_to (lower_sides rs) x y) (times_up_to (upper_sides rs) x y) (cover_count rs x y)
+    (λ e. let k : r.y1 ≤ℤ y = le_from_true r.y1 y e in le_true r.y0 y (omega (arith, ints)))
+    (begun_and_ended rs x y a.1)
+    ∙ ap (λ b. cond (int_le r.y1 y && between r.x0 r.x1 x) (times_up_to (upper_sides rs) x y + 1) (times_up_to (upper_sides rs) x y) + cond (between r.x0 r.x1 x && (int_le r.y0 y && b)) (cover_count rs x y + 1) (cover_count rs x y)) (not_le r.y1 y)
+
+pub all_end : (rs : List Rect) (x : ℤ) → times (lower_sides rs) x ≡ times (upper_sides rs) x
+all_end [] x = refl
+all_end (r ∷ rs) x = ap (λ n. cond (between r.x0 r.x1 x) (n + 1) n) (all_end rs x)
+
+few_more : (b : Bool) (n m : ℕ) → n ≤ m → cond b (n + 1) n ≤ suc m
+few_more true n m l = omega arith
+few_more false n m l = omega arith
+
+few : (rs : List Rect) (x y : ℤ) → cover_count rs x y ≤ length rs
+few [] x y = omega arith
+few (r ∷ rs) x y = few_more (squares_of r x y) (cover_count rs x y) (length rs) (few rs x y)
+
+some_more : (b : Bool) (n : ℕ) (c : Bool) → not (eqb n 0) ≡ c → not (eqb (cond b (n + 1) n) 0) ≡ (b || c)
+some_more true n c e =
+    let k : eqb (n + 1) 0 ≡ false = elim (eqb_tells (n + 1) 0) [ inl t ↦ absurd (let q : n + 1 ≡ 0 = t.1 in omega arith) | inr f ↦ f.0 ] in
+    ap not k
+some_more false n c e = e
+
+covered_some : (rs : List Rect) (x y : ℤ) → not (eqb (cover_count rs x y) 0) ≡ covered rs x y
+covered_some [] x y = refl
+covered_some (r ∷ rs) x y = some_more (squares_of r x y) (cover_count rs x y) (covered rs x y) (covered_some rs x y)
+
+-- ---- in 64 bits
+
+rearranged : (b n t : ℕ) → (b + n) + t ≡ (t + b) + n
+rearranged b n t = omega arith
+
+open_is : (b n k m : ℕ) → suc k ≡ m → n < m → ((b + n) + b * k) % m ≡ n
+open_is b n k m e l =
+    ap (λ t. t % m) (rearranged b n (b * k) ∙ ap (λ t. t + n) (sym (mul-suc b k) ∙ ap (λ t. b * t) e)) ∙ mod-mul-add b m n l
+
+pub inside_covered : (rs : List Rect) (x y : ℤ) (begun ended : ℕ) → AllByRecursion IsRect rs → length rs < 2 ^ 64 → begun ≡ times_up_to (lower_sides rs) x y → ended ≡ times_up_to (upper_sides rs) x y → not (eqb (open_count begun ended) 0) ≡ covered rs x y
+inside_covered rs x y begun ended a l e f =
+    let n = cover_count rs x y in
+    let small : n < 2 ^ 64 = (let m = few rs x y in omega arith) in
+    let is : begun ≡ ended + n = e ∙ (begun_and_ended rs x y a ∙ ap (λ t. t + n) (sym f)) in
+    ap (λ t. not (eqb t 0)) (ap (λ t. open_count t ended) is ∙ open_is ended n (2 ^ 64 - 1) (2 ^ 64) refl small)
+    ∙ covered_some rs x y
+
+pub none_open : (b : ℕ) → not (eqb (open_count b b) 0) ≡ false
+none_open b =
+    let e : b ≡ b + 0 = omega arith in
+    ap (λ t. not (eqb t 0)) (ap (λ t. open_count t b) e ∙ open_is b 0 (2 ^ 64 - 1) (2 ^ 64) refl (lit< tt))

@@ -1,0 +1,4 @@
+mod EndFlips
+mod Turned
+mod CountedFlips
+mod Swept
