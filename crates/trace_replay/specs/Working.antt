@@ -1,0 +1,3 @@
+pub mod Reruns
+pub mod Headers
+pub mod Endings
