@@ -1,0 +1,3 @@
+-- Working words: what the private functions answer. No public clause cites them.
+pub mod Reading
+pub mod Gaps

@@ -1,0 +1,4 @@
+pub mod DeckKinds
+pub mod Words
+pub mod Plain
+pub mod WellFormed
