@@ -1,3 +1,3 @@
-pub mod Entries
+mod Entries
 mod Walks
 mod Changed

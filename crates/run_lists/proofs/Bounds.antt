@@ -1,5 +1,6 @@
 -- The boundary of what rectangles cover is bounded.
 use Rattle.std.proofs.Common.{◌≡◌, ℕ, ◌+◌, ◌≤◌, Bool, true, false, ◌&&◌, ◌||◌, not, ℤ, pos, neg_ℤ, ◌+ℤ◌, ◌-ℤ◌, ◌≤ℤ◌, ◌<ℤ◌, unsigned_abs, List, [], ◌∷◌, refl, sym, arith}
+use Rattle.std.proofs.lemmas.Bool.{and_parts}
 use Rattle.std.proofs.lemmas.Int.{ints}
 use mathlib.Core.Bool.{true≢false}
 use Rattle.list_facts.specs.InOrder.{ListsInOrder}
@@ -28,13 +29,9 @@ abbrev reach : List Rect → ℕ
 reach [] = 0
 reach (r ∷ rs) = reach_of r + reach rs
 
-both_from : (p q : Bool) → (p && q) ≡ true → (p ≡ true) × (q ≡ true)
-both_from true q e = (refl, e)
-both_from false q e = (e, absurd (true≢false (sym e)))
-
 one_within : (r : Rect) (b : ℕ) (x y : ℤ) → reach_of r ≤ b → squares_of r x y ≡ true → IsWithin b x y
 one_within r b x y h e =
-    let both = both_from _ _ e in
+    let both = and_parts _ _ e in
     let w = from_between r.x0 r.x1 x both.0 in
     let v = up_to_between r.x0 r.x1 x both.0 in
     let s = from_between r.y0 r.y1 y both.1 in
@@ -50,7 +47,7 @@ all_within (r ∷ rs) b x y h e = at (squares_of r x y) refl e (λ rest. all_wit
 
 module _ (rs : List Rect) where
   inside : (x y : ℤ) (out : Bool) → (covered rs x y && out) ≡ true → IsWithin (reach rs) x y
-  inside x y out e = all_within rs (reach rs) x y (omega arith) (both_from _ _ e).0
+  inside x y out e = all_within rs (reach rs) x y (omega arith) (and_parts _ _ e).0
 
   within : AreWithin (boundary (covered rs)) (reach rs + 1)
   within = record { line_from = line_from; line_to = line_to; column_from = column_from; column_to = column_to } where

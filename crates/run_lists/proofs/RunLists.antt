@@ -1,5 +1,6 @@
 -- The maximal runs of a bounded set of units can be listed in run order.
 use Rattle.std.proofs.Common.{◌≡◌, ℕ, zero, suc, ◌+◌, ◌*◌, ◌≤◌, ◌<◌, Bool, true, false, not, ◌&&◌, inl, inr, ◌⊎◌, ◌↔◌, ℤ, pos, neg_ℤ, ◌+ℤ◌, ◌-ℤ◌, ◌≤ℤ◌, ◌<ℤ◌, int_lt, unsigned_abs, List, [], ◌∷◌, ◌++◌, map, refl, sym, ap, subst, ◌∙◌, arith}
+use Rattle.std.proofs.lemmas.Bool.{and_parts, not-true}
 use Rattle.std.proofs.lemmas.Int.{ints}
 use mathlib.Core.Bool.{true≢false}
 use Rattle.list_facts.specs.InOrder.{ListsInOrder}
@@ -64,10 +65,6 @@ has_run ns run l o h =
 
 -- ---- Whether a run is maximal can be told
 
-both_from : (p q : Bool) → (p && q) ≡ true → (p ≡ true) × (q ≡ true)
-both_from true q e = (refl, e)
-both_from false q e = (e, absurd (true≢false (sym e)))
-
 abbrev has_all : Units → Side → (line lo : ℤ) → ℕ → Bool
 has_all units side line lo zero = true
 has_all units side line lo (suc n) = has_unit units side line lo && has_all units side line (lo +ℤ pos 1) n
@@ -75,8 +72,8 @@ has_all units side line lo (suc n) = has_unit units side line lo && has_all unit
 all_from : (units : Units) (side : Side) (line lo : ℤ) (n : ℕ) → has_all units side line lo n ≡ true → (column : ℤ) → lo ≤ℤ column → column <ℤ (lo +ℤ pos n) → has_unit units side line column ≡ true
 all_from units side line lo zero e column p q = absurd (let no : ⊥ = omega (arith, ints) in no)
 all_from units side line lo (suc n) e column p q = elim (first_or_later lo column p) [
-  | inl same ↦ subst (λ c. has_unit units side line c ≡ true) same (both_from _ _ e).0
-  | inr later ↦ all_from units side line (lo +ℤ pos 1) n (both_from _ _ e).1 column later (omega (arith, ints))
+  | inl same ↦ subst (λ c. has_unit units side line c ≡ true) same (and_parts _ _ e).0
+  | inr later ↦ all_from units side line (lo +ℤ pos 1) n (and_parts _ _ e).1 column later (omega (arith, ints))
 ] where
   first_or_later : (lo x : ℤ) → lo ≤ℤ x → (lo ≡ x) ⊎ ((lo +ℤ pos 1) ≤ℤ x)
   first_or_later lo x p = grind (arith, ints)
@@ -96,10 +93,6 @@ is_maximal units run =
 length_is : (lo hi : ℤ) → lo <ℤ hi → (lo +ℤ pos (unsigned_abs (hi -ℤ lo))) ≡ hi
 length_is lo hi p = omega (arith, ints)
 
-not_true : (b : Bool) → not b ≡ true → b ≡ false
-not_true true e = sym e
-not_true false e = refl
-
 all_true : (a b c d : Bool) → a ≡ true → b ≡ true → c ≡ false → d ≡ false → (a && (b && (not c && not d))) ≡ true
 all_true a b c d p q r s = ap (λ x. x && (b && (not c && not d))) p ∙ ap (λ x. x && (not c && not d)) q ∙ ap (λ x. not x && not d) r ∙ ap not s
 
@@ -111,15 +104,15 @@ module _ (units : Units) where
 
   maximal : (run : Run) → is_maximal units run ≡ true → IsMaximalRun units run
   maximal run e =
-      let first = both_from _ _ e in
-      let second = both_from _ _ first.1 in
-      let third = both_from _ _ second.1 in
+      let first = and_parts _ _ e in
+      let second = and_parts _ _ first.1 in
+      let third = and_parts _ _ second.1 in
       let some = lt_from_true run.lo run.hi first.0 in
       record {
         not_empty = some;
         inside = λ column p q. all_from units run.side run.line run.lo (unsigned_abs (run.hi -ℤ run.lo)) second.0 column p (subst (λ h. column <ℤ h) (sym (length_is run.lo run.hi some)) q);
-        before = not_true _ third.0;
-        after = not_true _ third.1;
+        before = not-true _ third.0;
+        after = not-true _ third.1;
       }
 
 -- the units lie between -b and b

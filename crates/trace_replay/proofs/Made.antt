@@ -20,10 +20,6 @@ pub record IsMade (costs : List ℕ) (old now : Ledger) (events : List Event) (m
 pub newest : (events : List Event) (e : Event) → past_of (events ++ e ∷ []) ≡ e ∷ past_of events
 newest events e = reverse-append events (e ∷ [])
 
-pub true_from_not : (b : Bool) → not b ≡ false → b ≡ true
-true_from_not true e = refl
-true_from_not false e = absurd cc
-
 -- one event more
 pub made_more : (costs : List ℕ) (old now next : Ledger) (events more : List Event) (e : Event) (most new t : ℕ)
     → IsMade costs old now events most → more ≡ events ++ e ∷ [] → Enabled (setup_at costs now) now.events e → next ≡ with_event now e

@@ -1,6 +1,7 @@
 -- What is printed is the text of a trace.
 use Rattle.std.proofs.Common.{◌≡◌, ℕ, suc, ◌<◌, ◌^◌, Bool, true, false, ◌||◌, List, [], ◌∷◌, ◌++◌, length, get_or, map, reverse, refl, sym, ap, subst, ◌∙◌, append_assoc, append-nil}
 use Rattle.std.specs.List.{AllByRecursion}
+use Rattle.std.proofs.lemmas.Bool.{or_parts}
 use Rattle.std.proofs.lemmas.List.{reverse-append}
 use Rattle.ledger_history.specs.declared.event.Event.{Event}
 use Rattle.ledger_history.specs.declared.event.Event.TheVariants.{Claim, Charge, Publish, Release, Stop}
@@ -17,10 +18,6 @@ use Rattle.trace_text.specs.Working.Charges.{HasTextIfNoStop, HeaderFits}
 use Rattle.trace_text.proofs.Texts.{text-append}
 
 -- ---- nobody stopped
-
-or_parts_false : (a b : Bool) → (a || b) ≡ false → (a ≡ false) × (b ≡ false)
-or_parts_false true b e = absurd cc
-or_parts_false false b e = (refl, e)
 
 is_stopped-append : (g h : List Event) → is_stopped (g ++ h) ≡ (is_stopped g || is_stopped h)
 is_stopped-append [] h = refl
@@ -41,7 +38,7 @@ all_have_texts : (es : List Event) → is_stopped (reverse es) ≡ false → All
 all_have_texts [] n h = tt
 all_have_texts (e ∷ es) n h =
     let p : is_stopped (reverse es ++ (e ∷ [])) ≡ false = ap is_stopped (sym (reverse-append (e ∷ []) es)) ∙ n in
-    let q = or_parts_false (is_stopped (reverse es)) (is_stopped (e ∷ [])) (sym (is_stopped-append (reverse es) (e ∷ [])) ∙ p) in
+    let q = or_parts (is_stopped (reverse es)) (is_stopped (e ∷ [])) (sym (is_stopped-append (reverse es) (e ∷ [])) ∙ p) in
     (h.0 (sym (lone_stop e) ∙ q.1), all_have_texts es q.0 h.1)
 
 -- ---- the text
