@@ -1,7 +1,2 @@
-mod RunLists
-mod RowEnds
-mod Sides
-mod Turning
-mod Climbing
-mod Steps
-mod Summit
+mod Drawing
+mod Together

@@ -1,3 +1,3 @@
 -- Working words: of the loops and of the steps of this crate alone. No clause of a public function reaches them.
-pub mod Levels
-pub mod Uprights
+pub mod Flips
+pub mod Pieces

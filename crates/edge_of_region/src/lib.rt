@@ -8,15 +8,15 @@
 //!          S
 //! ```
 //!
-//! A climb goes up the region. On each line lie S and N sides, where the row above the line and the row below it
-//! differ. An upright side stands from the line where it begins up to the line where it ends.
+//! A sweep goes up over the flips of the region, on which the S and N sides lie: it tells the columns of a flip in which
+//! squares begin and those in which they end. W and E sides are the same with x and y in each other's place, so the same
+//! sweep goes over the flips of the region turned over.
 #![tactic(auto)]
 
 mod boundary_of;
-mod level;
-mod open_side;
+mod sides;
 #[cfg(test)]
 mod tests;
-mod upright;
+mod turn;
 
 pub use boundary_of::boundary;

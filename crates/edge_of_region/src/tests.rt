@@ -1,6 +1,4 @@
 use crate::boundary;
-use crate::open_side::OpenSide;
-use crate::upright::turn;
 use drc_geom::{Run, Side};
 use interval_row::{Row, Span};
 use region_form::{Builder, Region};
@@ -182,22 +180,5 @@ fn towers_on_one_base(rt: HostRuntime) -> Result<(), Fail> {
             ],
         },
     )?;
-    Ok(())
-}
-
-#[test]
-fn a_side_goes_on_past_a_line(rt: HostRuntime) -> Result<(), Fail> {
-    let below = [
-        OpenSide { line: 0, lo: 1 },
-        OpenSide { line: 2, lo: -1 },
-        OpenSide { line: 6, lo: 3 },
-    ];
-    let above = [OpenSide { line: 0, lo: 1 }, OpenSide { line: 4, lo: 5 }];
-    let row = Row::gather(rt.alloc(), &[span(0, 3), span(4, 7)])?;
-    let mut pieces = Vec::new(rt.alloc());
-    let turned = turn(rt.alloc(), Side::W, 5, &below, &row, &mut pieces)?;
-    assert_eq!(rt; turned.as_slice(), above.as_slice());
-    let ended = [run(Side::W, 2, -1, 5), run(Side::W, 6, 3, 5)];
-    assert_eq!(rt; pieces.as_slice(), ended.as_slice());
     Ok(())
 }
