@@ -24,6 +24,7 @@ deck_number (kinds.MissingStatement which) = 13
 deck_number (kinds.RepeatedStatement which) = 14
 deck_number (kinds.TooMany what) = 15
 deck_number kinds.SameFile = 16
+deck_number kinds.LayerCycle = 17
 deck_number kinds.NotBuilt = 90
 
 abbrev pub deck_word : DeckKind → List ℕ
@@ -43,6 +44,7 @@ deck_word (kinds.MissingStatement which) = codes "MissingStatement"
 deck_word (kinds.RepeatedStatement which) = codes "RepeatedStatement"
 deck_word (kinds.TooMany what) = codes "TooMany"
 deck_word kinds.SameFile = codes "SameFile"
+deck_word kinds.LayerCycle = codes "LayerCycle"
 deck_word kinds.NotBuilt = codes "NotBuilt"
 
 -- the words with which a statement begins that stands at most once

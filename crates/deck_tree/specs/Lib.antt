@@ -1,4 +1,8 @@
 pub mod DeckKinds
-pub mod Words
+pub mod KnownNames
+pub mod Names
 pub mod Plain
 pub mod WellFormed
+pub mod Words
+pub mod Working
+pub mod Worths

@@ -97,6 +97,8 @@ pub enum DeckKind {
     TooMany(Counted),
     /// A results file or a trace with the name of another file of the run.
     SameFile,
+    /// A definition that uses itself, by itself or by others.
+    LayerCycle,
     /// A deck that the checker doesn't serve yet.
     NotBuilt,
 }
@@ -123,6 +125,7 @@ impl DeckKind {
             DeckKind::RepeatedStatement(_) => 14,
             DeckKind::TooMany(_) => 15,
             DeckKind::SameFile => 16,
+            DeckKind::LayerCycle => 17,
             DeckKind::NotBuilt => 90,
         }
     }
@@ -148,6 +151,7 @@ impl DeckKind {
             DeckKind::RepeatedStatement(_) => "RepeatedStatement",
             DeckKind::TooMany(_) => "TooMany",
             DeckKind::SameFile => "SameFile",
+            DeckKind::LayerCycle => "LayerCycle",
             DeckKind::NotBuilt => "NotBuilt",
         }
     }

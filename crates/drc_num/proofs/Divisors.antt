@@ -53,6 +53,9 @@ has_both (suc n) k a b p h =
           by_step k a b p q (has_both n k b (a % b) p (below_suc (a % b) b (mod-lt a q) n h))
     ]
 
+pub some_gcd : (a b : ℕ) → (g : ℕ) × IsGcd a b g
+some_gcd a b = let both = has_both b 1 a b (omega arith) (omega arith) in (both.g, both.plain)
+
 pub scaled_gcd : (k a b g : ℕ) → 0 < k → IsGcd a b g → IsGcd (k * a) (k * b) (k * g)
 scaled_gcd k a b g p h =
     let both = has_both b k a b p (omega arith) in

@@ -1,2 +1,3 @@
 mod Divisors
 mod Numbers
+mod TheFraction

@@ -2,7 +2,7 @@
 -- are equal. A fraction is a number in lowest terms whose parts are at most 2^62.
 --
 --     6 / 4 and 3 / 2 are one number, since 6 * 2 = 3 * 4; the fraction of it is 3 / 2
-use Rattle.std.specs.Prelude.{◌≡◌, ℕ, ◌^◌, ◌≤◌, ◌<◌, ℤ, pos, negsuc, neg_ℤ, ◌*ℤ◌, Option, IfSome, IfNone, unsigned_abs, int_div}
+use Rattle.std.specs.Prelude.{◌≡◌, ℕ, zero, suc, ◌^◌, ◌%◌, ◌/◌, ◌≤◌, ◌<◌, ◌==◌, ◌&&◌, nat_le, if◌then◌else◌, Bool, ℤ, pos, negsuc, neg_ℤ, ◌*ℤ◌, Option, Some, None, IfSome, IfNone, unsigned_abs, int_div}
 use Rattle.std.specs.Int.{IsGcd}
 
 pub record Fraction : Type 0 where
@@ -45,3 +45,22 @@ raised a b = a.num *ℤ pos b.den
 -- the whole part of a / b, rounded toward 0
 abbrev pub whole_part : (a b : Fraction) → ℤ
 whole_part a b = int_div (raised a b) (raised b a)
+
+-- ---- The fraction of a number, as a function
+
+-- the greatest number that divides both, of those from 1 to n
+unfoldable pub greatest_divisor : (a b n : ℕ) → ℕ
+greatest_divisor a b zero = 1
+greatest_divisor a b (suc n) = if (a % suc n == 0) && (b % suc n == 0) then suc n else greatest_divisor a b n
+
+-- the number num / den in lowest terms, for a den of at least 1
+unfoldable pub lowest_of : (num : ℤ) (den : ℕ) → Fraction
+lowest_of num den =
+    let g = greatest_divisor (unsigned_abs num) den den in record { num = with_sign_of num (unsigned_abs num / g); den = den / g }
+
+abbrev pub fits : Fraction → Bool
+fits f = nat_le (unsigned_abs f.num) most && nat_le f.den most
+
+-- the fraction that is the number num / den, where its parts fit in lowest terms
+unfoldable pub fraction_of : (num : ℤ) (den : ℕ) → Option Fraction
+fraction_of num den = if fits (lowest_of num den) then Some (lowest_of num den) else None

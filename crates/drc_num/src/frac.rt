@@ -1,7 +1,7 @@
 //! A fraction, and what is computed with it.
 ghost use Rattle.std.specs.Prelude.{◌≡◌, ℕ, ◌*◌, ◌^◌, ◌≤◌, ◌<◌, ℤ, pos, ◌+ℤ◌, ◌-ℤ◌, ◌*ℤ◌, IfSome, IfNone, unsigned_abs};
 ghost use Rattle.std.specs.Int.{IsGcd, int_pow};
-ghost use Rattle.drc_num.specs.Fractions.{IsExact, IsNumber, inverse_num, raised, whole_part, most};
+ghost use Rattle.drc_num.specs.Fractions.{IsExact, IsLowest, IsNumber, fraction_of, inverse_num, raised, whole_part, most};
 ghost use Rattle.drc_num.specs.Working.Signs.{signed, power_sign};
 
 use crate::division::{product, quotient, remainder};
@@ -38,7 +38,8 @@ impl Frac {
         requires size { unsigned_abs num < 2 ^ 126 }
         requires some { 0 < den }
         requires den { den < 2 ^ 126 }
-        ensures { IsExact num den result }
+        ensures exact { IsExact num den result }
+        ensures fraction { result ≡ fraction_of num den }
     {
         let size = num.unsigned_abs();
         let common = gcd(size, den);
@@ -54,14 +55,16 @@ impl Frac {
 
     /// The denominator, which is at least 1.
     pub fn den(&self) -> u64
-        ensures { result ≡ self.now.den }
+        ensures value { result ≡ self.now.den }
+        ensures some { 0 < result }
     {
         self.den
     }
 
     /// The sum.
     pub fn add(&self, other: &Frac) -> Option<Frac>
-        ensures { IsExact (raised self.now other.now +ℤ raised other.now self.now) (self.now.den * other.now.den) result }
+        ensures exact { IsExact (raised self.now other.now +ℤ raised other.now self.now) (self.now.den * other.now.den) result }
+        ensures fraction { result ≡ fraction_of (raised self.now other.now +ℤ raised other.now self.now) (self.now.den * other.now.den) }
     {
         Frac::new(
             raise(self, other) + raise(other, self),
@@ -71,7 +74,8 @@ impl Frac {
 
     /// The difference.
     pub fn sub(&self, other: &Frac) -> Option<Frac>
-        ensures { IsExact (raised self.now other.now -ℤ raised other.now self.now) (self.now.den * other.now.den) result }
+        ensures exact { IsExact (raised self.now other.now -ℤ raised other.now self.now) (self.now.den * other.now.den) result }
+        ensures fraction { result ≡ fraction_of (raised self.now other.now -ℤ raised other.now self.now) (self.now.den * other.now.den) }
     {
         Frac::new(
             raise(self, other) - raise(other, self),
@@ -81,7 +85,8 @@ impl Frac {
 
     /// The product.
     pub fn mul(&self, other: &Frac) -> Option<Frac>
-        ensures { IsExact (self.now.num *ℤ other.now.num) (self.now.den * other.now.den) result }
+        ensures exact { IsExact (self.now.num *ℤ other.now.num) (self.now.den * other.now.den) result }
+        ensures fraction { result ≡ fraction_of (self.now.num *ℤ other.now.num) (self.now.den * other.now.den) }
     {
         let product = product(i128::from(self.num), i128::from(other.num));
         Frac::new(product, common_den(self, other))
@@ -92,6 +97,8 @@ impl Frac {
         ensures zero { other.now.num ≡ pos 0 → result ≡ None }
         ensures exact { (other.now.num ≡ pos 0 → ⊥)
             → IsExact (self.now.num *ℤ inverse_num other.now) (self.now.den * unsigned_abs other.now.num) result }
+        ensures fraction { (other.now.num ≡ pos 0 → ⊥)
+            → result ≡ fraction_of (self.now.num *ℤ inverse_num other.now) (self.now.den * unsigned_abs other.now.num) }
     {
         if other.num == 0 {
             return None;
@@ -111,6 +118,9 @@ impl Frac {
         ensures exact { (other.now.num ≡ pos 0 → ⊥)
             → IsExact (raised self.now other.now -ℤ whole_part self.now other.now *ℤ raised other.now self.now)
             (self.now.den * other.now.den) result }
+        ensures fraction { (other.now.num ≡ pos 0 → ⊥)
+            → result ≡ fraction_of (raised self.now other.now -ℤ whole_part self.now other.now *ℤ raised other.now self.now)
+            (self.now.den * other.now.den) }
     {
         if other.num == 0 {
             return None;
@@ -122,7 +132,8 @@ impl Frac {
     /// The number multiplied by itself n times, which are at most 255.
     pub fn pow(&self, n: u32) -> Option<Frac>
         requires { n ≤ 255 }
-        ensures { IsExact (int_pow self.now.num n) (self.now.den ^ n) result }
+        ensures exact { IsExact (int_pow self.now.num n) (self.now.den ^ n) result }
+        ensures fraction { result ≡ fraction_of (int_pow self.now.num n) (self.now.den ^ n) }
     {
         let size = power(u128::from(self.num.unsigned_abs()), n)?;
         let den = power(u128::from(self.den), n)?;
@@ -168,7 +179,8 @@ fn common_den(a: &Frac, b: &Frac) -> u128
 fn lowest(negative: bool, size: u128, den: u128) -> Option<Frac>
     requires some { 0 < den }
     requires lowest { IsGcd size den 1 }
-    ensures { IsExact (signed negative size) den result }
+    ensures exact { IsExact (signed negative size) den result }
+    ensures lowest { IfSome result IsLowest }
 {
     if size <= MOST && den <= MOST {
         Some(Frac {

@@ -17,7 +17,7 @@ mod laws;
 mod power;
 
 pub use frac::Frac;
-pub use laws::one_fraction_a_number;
+pub use laws::{exact_is_the_fraction, one_fraction_a_number};
 
 #[cfg(test)]
 mod tests;

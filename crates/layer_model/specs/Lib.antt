@@ -1,2 +1,4 @@
+pub mod DrawnNumbers
+pub mod Limits
 pub mod Wirings
 pub mod Working

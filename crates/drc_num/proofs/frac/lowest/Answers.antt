@@ -12,9 +12,14 @@ invariant_of-result c =
 too_great : (size den : ℕ) → ((size ≤ most) × (most < den)) ⊎ (most < size) → (most < size) ⊎ (most < den)
 too_great size den h = elim h [ inl p ↦ inr p.1 | inr q ↦ inl q ]
 
-pub returns-else-size-le-MOST : goal.returns-else-size-le-MOST
-returns-else-size-le-MOST c = record {
+pub returns-else-size-le-MOST-clause-exact : goal.returns-else-size-le-MOST-clause-exact
+returns-else-size-le-MOST-clause-exact c = record {
   found = tt;
   none = is_no_fraction c.args.negative c.args.size c.args.den c.requires.some c.requires.lowest
       (too_great c.args.size c.args.den c.else-size-le-MOST.either);
 }
+
+pub returns-then-den-le-MOST-clause-lowest : goal.returns-then-den-le-MOST-clause-lowest
+returns-then-den-le-MOST-clause-lowest c =
+    lowest_signed _ c.args.negative c.args.size c.args.den (to_z-of_z w64 c.with_sign.result (search rules) ∙ c.with_sign.ensures) c.requires.some
+    c.requires.lowest c.if-size-le-MOST.true c.if-den-le-MOST.true

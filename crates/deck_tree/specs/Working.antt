@@ -1,0 +1,2 @@
+-- Working words, which no contract that is exported cites.
+pub mod Answers
