@@ -92,6 +92,7 @@ module _ (primary : List ℕ) (items : List Item) (rest : List ℕ) (item : Item
   follows kinds.NotBuilt at next =
       let same = same_front item next.item more next.more (comes.here ∙ sym next.next.here) (sym comes.whole ∙ next.next.whole) in
       next.leaves (subst (λ (i : Item). IsFront primary (items ++ i ∷ [])) same.0 front)
+  follows kind at next = absurd next
 
 goes_on : (primary : List ℕ) (bytes : List ℕ) (items : List Item) (item : Item) (after : List Item) (rest rest' : List ℕ) (kind : LayoutKind) (at : ℕ)
     → Cuts bytes items rest → Cuts bytes (items ++ item ∷ after) rest' → IsFront primary (items ++ item ∷ after) → IsNext kind primary items rest at → ⊥
@@ -168,6 +169,11 @@ module _ (primary : List ℕ) (items : List Item) (rest : List ℕ) where
   next_is_one kinds.NotBuilt kinds.Truncated at at' p q = absurd (whole_not_partial (end_of items) rest p.item p.more p.next.whole q.1)
   next_is_one kinds.NotBuilt kinds.BadLength at at' p q = absurd (whole_not_bad_length (end_of items) rest p.item p.more p.next.whole p.next.good q.1)
   next_is_one kinds.NotBuilt kinds.NotBuilt at at' p q = (leaves_at at p ∙ sym (leaves_at at' q), refl)
+  next_is_one kinds.LayoutTooLong kind' at at' p q = absurd q
+  next_is_one kinds.Truncated kind' at at' p q = absurd q
+  next_is_one kinds.BadLength kind' at at' p q = absurd q
+  next_is_one kinds.NotBuilt kind' at at' p q = absurd q
+  next_is_one kind kind' at at' p q = absurd p
 
 same_refusal : (a b : LayoutRefusal) → (a.at ≡ b.at) × (a.kind ≡ b.kind) → a ≡ b
 same_refusal a b same = λ i. let r : LayoutRefusal = record { at = same.0 i; kind = same.1 i } in r

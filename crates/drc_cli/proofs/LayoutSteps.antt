@@ -91,8 +91,7 @@ module _ (of : Sought) (fed : List ℕ) (items : List Item) (reader : Reader) (s
       → IsNext kind of.primary items (reader.framer.left ++ more) at
   refused-next kinds.LayoutTooLong at more is refused = (is, too_long-more (end_of items) reader.framer.left more refused)
   refused-next kinds.BadLength at more is refused = (is, bad_length-more (end_of items) reader.framer.left more refused)
-  refused-next kinds.Truncated at more is refused = absurd refused
-  refused-next kinds.NotBuilt at more is refused = absurd refused
+  refused-next kind at more is refused = absurd refused
 
   pub when_refused : reader.framer.ended ≡ false → (refusal : LayoutRefusal) → refusal.at ≡ reader.framer.at → IsRefusedAs refusal.kind reader.framer.at reader.framer.left
       → (more : List ℕ) → HasStopped of (fed ++ more) reader.rects.items (Refused refusal)

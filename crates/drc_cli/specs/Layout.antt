@@ -211,6 +211,7 @@ IsNext kinds.LayoutTooLong primary items rest at = (at ≡ end_of items) × IsTo
 IsNext kinds.BadLength primary items rest at = (at ≡ end_of items) × IsBadLength (end_of items) rest
 IsNext kinds.Truncated primary items rest at = (at ≡ end_of items + length rest) × IsPartial (end_of items) rest
 IsNext kinds.NotBuilt primary items rest at = LeavesForm primary items rest at
+IsNext kind primary items rest at = ⊥
 
 -- A layout of these bytes is refused so: behind records of the first form, before ENDLIB, this fact comes next.
 pub record Refuses (primary : List ℕ) (bytes : List ℕ) (refusal : LayoutRefusal) : Type 0 where

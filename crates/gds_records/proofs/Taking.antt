@@ -68,8 +68,7 @@ refused-as kinds.LayoutTooLong at bytes more items stream taken here refused =
     let P : ℕ → Type 0 = λ n. IsTooLong n (stream.left ++ more) in (here ∙ taken.behind, subst P taken.behind (too_long-more stream.at stream.left more refused))
 refused-as kinds.BadLength at bytes more items stream taken here refused =
     let P : ℕ → Type 0 = λ n. IsBadLength n (stream.left ++ more) in (here ∙ taken.behind, subst P taken.behind (bad_length-more stream.at stream.left more refused))
-refused-as kinds.Truncated at bytes more items stream taken here refused = absurd refused
-refused-as kinds.NotBuilt at bytes more items stream taken here refused = absurd refused
+refused-as kind at bytes more items stream taken here refused = absurd refused
 
 refused-behind : (fault : LayoutFault) (bytes more : List ℕ) (items : List Item) (stream : Stream) → TakesWhole bytes (Err fault) items stream → IsFaultOf (bytes ++ more) fault
 refused-behind (faults.Refused refusal) bytes more items stream takes =

@@ -15,7 +15,7 @@ abbrev pub IsRefusedBehind : LayoutKind → ℕ → List ℕ → ℕ → List �
 IsRefusedBehind kinds.LayoutTooLong at bytes behind rest = (at ≡ behind) × IsTooLong behind rest
 IsRefusedBehind kinds.BadLength at bytes behind rest = (at ≡ behind) × IsBadLength behind rest
 IsRefusedBehind kinds.Truncated at bytes behind rest = (at ≡ length bytes) × IsPartial behind rest
-IsRefusedBehind kinds.NotBuilt at bytes behind rest = ⊥
+IsRefusedBehind kind at bytes behind rest = ⊥
 
 -- The fact for which bytes are refused: behind their whole records, none of which is ENDLIB, stands a header that is
 -- refused, or they end.

@@ -22,8 +22,7 @@ item_of taken = record { at = taken.at; kind = taken.kind; form = taken.form; bo
 abbrev pub IsRefusedAs : LayoutKind → ℕ → List ℕ → Type 0
 IsRefusedAs kinds.LayoutTooLong at bytes = IsTooLong at bytes
 IsRefusedAs kinds.BadLength at bytes = IsBadLength at bytes
-IsRefusedAs kinds.Truncated at bytes = ⊥
-IsRefusedAs kinds.NotBuilt at bytes = ⊥
+IsRefusedAs kind at bytes = ⊥
 
 -- What take answers: the record at the front, which leaves; or nothing, where no further one is whole or ENDLIB was
 -- taken; or the refusal of the header at the front. All but the first change nothing.

@@ -1,0 +1,4 @@
+mod Lists
+mod OpenedMore
+mod OneFact
+mod Taking

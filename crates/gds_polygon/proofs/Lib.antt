@@ -1,0 +1,3 @@
+mod Reordered
+mod StepFacts
+mod Around
