@@ -1,5 +1,6 @@
-pub mod Stocks
-pub mod Crews
-pub mod Turns
-pub mod States
-pub mod Endings
+mod Stocks
+mod Crews
+mod Turns
+mod States
+mod Endings
+mod Alone

@@ -24,6 +24,14 @@ Claims s old seat (claims.NotYet r) new =
 Claims s old seat (claims.Done r) new = (r ≡ seat) × (new ≡ old) × (is_stopped old.events ≡ false) × IsComplete s old.events
 Claims s old seat (claims.Stopped r) new = (r ≡ seat) × (new ≡ old) × (is_stopped old.events ≡ true)
 
+-- What a claim answers where nobody is busy: an operation below which all is finished, or that the run is over. So it
+-- doesn't answer that the worker has to wait, and no budget keeps the operation from its charge.
+abbrev pub FindsLowest : {J L : Type 0} → Setup → claim.Claim J L → Machine → Type 0
+FindsLowest s (claims.Work t) new = AllFinishedBelow s new.events t.op
+FindsLowest s (claims.NotYet r) new = ⊥
+FindsLowest s (claims.Done r) new = Unit {0}
+FindsLowest s (claims.Stopped r) new = Unit {0}
+
 -- A charge: one event, where it is admitted. Where the run is stopped the operation is dropped without an event, and
 -- where it isn't admitted nothing changes.
 abbrev pub Charges : {J L : Type 0} → Setup → Machine → Holding → ℕ → charge.ChargeAnswer J L → Machine → Type 0

@@ -5,13 +5,13 @@ ghost use Rattle.layer_model.specs.Wirings as wirings;
 ghost use Rattle.layer_model.specs.Wirings.{reader_count};
 ghost use Rattle.ledger_history.specs.declared.event.Event.{Event};
 ghost use Rattle.ledger_history.specs.Histories.{is_stopped, is_let_go};
-ghost use Rattle.ledger_history.specs.Enabled.{Enabled};
+ghost use Rattle.ledger_history.specs.Enabled.{Enabled, Legal};
 ghost use Rattle.ledger_table.specs.Ledgers.{setup_of};
 ghost use Rattle.ledger_core.specs.declared.condition.Condition.{Condition};
 ghost use Rattle.ledger_core.specs.Jobs.{setup_for};
 ghost use Rattle.ledger_core.specs.Tokens.{Stock};
-ghost use Rattle.ledger_core.specs.Machines.{SeatAgrees, TicketAgrees, ChargedAgrees, PublishedAgrees, after};
-ghost use Rattle.ledger_core.specs.Answers.{Claims, Charges, Publishes, Releases, Stops};
+ghost use Rattle.ledger_core.specs.Machines.{SeatAgrees, TicketAgrees, ChargedAgrees, PublishedAgrees, IsIdle, after};
+ghost use Rattle.ledger_core.specs.Answers.{Claims, FindsLowest, Charges, Publishes, Releases, Stops};
 ghost use Rattle.ledger_core.specs.Working.Turns.{condition_at, IsGivenAt};
 
 use crate::answers::{ChargeAnswer, Claim, Given};
@@ -27,10 +27,12 @@ use ledger_history::plain::{input, input_count};
 use ledger_table::Table;
 
 impl<J: Job> State<J> {
-    /// Claims the lowest ready operation for the worker.
+    /// Claims the lowest ready operation for the worker. Where nobody is busy it never answers `NotYet`.
     pub fn claim(&mut self, seat: Seat) -> Claim<J>
         requires { SeatAgrees self.old seat }
-        ensures { Claims (setup_for J.wiring J.cost_of J.budget J.workers) self.old seat result self.new }
+        ensures claims { Claims (setup_for J.wiring J.cost_of J.budget J.workers) self.old seat result self.new }
+        ensures legal { Legal (setup_for J.wiring J.cost_of J.budget J.workers) self.new.events }
+        ensures alone { IsIdle self.old → FindsLowest (setup_for J.wiring J.cost_of J.budget J.workers) result self.new }
     {
         if self.table.is_stopped() {
             return Claim::Stopped(seat);

@@ -7,6 +7,6 @@ pub mod Returns
 pub mod Lives
 pub mod Ends
 pub mod Charges
-pub mod Budgets
+mod Budgets
 pub mod Goings
 pub mod Counts

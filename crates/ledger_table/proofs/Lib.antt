@@ -1,9 +1,9 @@
 pub mod Slots
-pub mod Linking
-pub mod Marking
-pub mod Opening
+mod Linking
+mod Marking
+mod Opening
 pub mod Costs
 pub mod Totals
 pub mod Holding
-pub mod Standing
+mod Standing
 pub mod Telling

@@ -1,1 +1,1 @@
-pub mod Trees
+mod Trees

@@ -1,4 +1,4 @@
-pub mod Digits
-pub mod Numbers
-pub mod Words
+mod Digits
+mod Numbers
+mod Words
 pub mod LineLaws

@@ -1,9 +1,9 @@
-pub mod Made
-pub mod Splits
-pub mod Said
-pub mod Offences
-pub mod Standing
-pub mod Faults
-pub mod Firsts
-pub mod Judged
-pub mod Reprinted
+mod Made
+mod Splits
+mod Said
+mod Offences
+mod Standing
+mod Faults
+mod Firsts
+mod Judged
+mod Reprinted

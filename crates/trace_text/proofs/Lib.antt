@@ -1,7 +1,8 @@
 pub mod LineLists
 pub mod Texts
-pub mod Filled
-pub mod Steps
-pub mod Stuck
+mod Filled
+mod Steps
+mod Stuck
 pub mod FrontLaws
-pub mod PrintLaws
+mod PrintLaws
+mod Reaching
