@@ -1,11 +1,11 @@
 pub mod Cuts
-pub mod Examples
+mod Examples
 pub mod Fronts
 pub mod Starts
 pub mod Readings
 pub mod Unique
 pub mod Tables
 pub mod Refused
-pub mod Worked
+mod Worked
 pub mod OnceFacts
-pub mod WorkedFronts
+mod WorkedFronts

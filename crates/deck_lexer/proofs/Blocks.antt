@@ -2,10 +2,9 @@
 use Rattle.std.proofs.Common.{◌≡◌, ℕ, suc, ◌+◌, ◌-◌, ◌<◌, ◌≤◌, inl, inr, Bool, true, false, eqb, ◌&&◌, List, [], ◌∷◌, ◌++◌, length, drop, get_or, Option, Some, None, refl, sym, ap, ◌∙◌, arith, length-drop}
 use Rattle.std.specs.Option.{option_map}
 use Rattle.std.proofs.Math.Seq.{drop-cons}
-use Rattle.std.proofs.lemmas.Bool.{and_parts, eqb-true, or_parts, or_from, and_right}
+use Rattle.std.proofs.lemmas.Bool.{and_parts, eqb-true, or_parts, or_from, and_right, cases_Bool}
 use Rattle.deck_lexer.specs.Tokens.{has_end}
 use Rattle.deck_lexer.specs.Working.Reading.{block_len}
-use Rattle.deck_lexer.proofs.Spans.{test}
 
 -- is it `*/`?
 abbrev pub ends : ℕ → ℕ → Bool
@@ -93,7 +92,7 @@ pub block_takes : (bytes : List ℕ) (n : ℕ) → block_len bytes ≡ Some n �
 block_takes [] n e = absurd cc
 block_takes (c ∷ []) n e = absurd cc
 block_takes (c ∷ d ∷ more) n e =
-    elim (test (ends c d)) [
+    elim (cases_Bool (ends c d)) [
       | inl holds ↦
           let both = and_parts (eqb c 42) (eqb d 47) holds in
           let star : c ≡ 42 = eqb-true c 42 both.0 in
@@ -117,7 +116,7 @@ pub block_none : (bytes : List ℕ) → block_len bytes ≡ None → has_end byt
 block_none [] e = refl
 block_none (c ∷ []) e = refl
 block_none (c ∷ d ∷ more) e =
-    elim (test (ends c d)) [
+    elim (cases_Bool (ends c d)) [
       | inl holds ↦ let two : ◌≡◌ {A = Option ℕ} (Some 2) None = rw holds at e in absurd cc
       | inr fails ↦
           let later : option_map suc (block_len (d ∷ more)) ≡ None = rw fails at e in

@@ -2,7 +2,7 @@
 use Rattle.std.proofs.Common.{◌≡◌, ℕ, suc, zero, ◌+◌, ◌<◌, ◌≤◌, inl, inr, Bool, true, false, cond, eqb, ◌||◌, List, [], ◌∷◌, ◌++◌, length, take, drop, get_or, Option, Some, None, Err, refl, sym, ap, subst, ◌∙◌, arith, append_assoc, length-append}
 use Rattle.std.specs.List.{prefix_len}
 use Rattle.std.proofs.Math.Seq.{get_or-append_seam}
-use Rattle.std.proofs.lemmas.Bool.{and_parts, and_left, or_parts, or_cases, eqb-true, eqb-false, ne_eqb, false≢true, both_ways}
+use Rattle.std.proofs.lemmas.Bool.{and_parts, and_left, or_parts, or_cases, eqb-true, eqb-false, ne_eqb, false≢true, both_ways, cases_Bool}
 use Rattle.std.proofs.lemmas.List.{drop_at}
 use Rattle.std.proofs.lemmas.List.Folds.{length-prefix_len}
 use Rattle.deck_lexer.specs.declared.token.TokenKind.{TokenKind}
@@ -11,7 +11,7 @@ use Rattle.deck_lexer.specs.declared.token.LexFault.TheVariants as faults
 use Rattle.deck_lexer.specs.Bytes.{is_blank, is_digit, begins_word, continues_word, is_text_byte, is_in_line}
 use Rattle.deck_lexer.specs.Tokens.{IsSpelling, IsWord, IsNumber, IsText, IsNote, IsSign, begins_comment, goes_on_as_word, MayFollow, IsLongest, closes_on_line, StandsAt}
 use Rattle.deck_lexer.specs.Working.Reading.{kind_of, block_len, block_part, part_len, number_len, sign_len, token, number_at, sign_at, text_at, standing_as, standing}
-use Rattle.deck_lexer.proofs.Spans.{test, Stops, span_passes, span_stops, span_len, span_holds, span_parts}
+use Rattle.deck_lexer.proofs.Spans.{Stops, span_passes, span_stops, span_len, span_holds, span_parts}
 use Rattle.deck_lexer.proofs.Blocks.{block_none}
 use Rattle.deck_lexer.proofs.FirstBytes.{kind_at_front}
 use Rattle.deck_lexer.proofs.Lens.{number_takes, number_most, sign_takes, sign_most, closes_behind}
@@ -28,9 +28,9 @@ no_comment_from c (d ∷ more) apart = and_left (eqb c 47) (eqb d 47 || eqb d 42
 -- what no gap's part begins
 pub no_part : (c : ℕ) (more : List ℕ) → is_blank c ≡ false → begins_comment (c ∷ more) ≡ false → part_len (c ∷ more) ≡ 0
 unfolding part_len
-no_part c [] no_blank no_comment = rw no_blank (elim (test (eqb c 47)) as (λ _. ◌≡◌ {A = ℕ} (cond (eqb c 47) 0 0) 0) [ inl is ↦ rw is refl | inr is ↦ rw is refl ])
+no_part c [] no_blank no_comment = rw no_blank (elim (cases_Bool (eqb c 47)) as (λ _. ◌≡◌ {A = ℕ} (cond (eqb c 47) 0 0) 0) [ inl is ↦ rw is refl | inr is ↦ rw is refl ])
 no_part c (d ∷ more) no_blank no_comment =
-    elim (test (eqb c 47)) as (λ _. part_len (c ∷ d ∷ more) ≡ 0) [
+    elim (cases_Bool (eqb c 47)) as (λ _. part_len (c ∷ d ∷ more) ≡ 0) [
       | inl slash ↦
           let neither : (eqb d 47 || eqb d 42) ≡ false = rw slash at no_comment in
           let parts = or_parts (eqb d 47) (eqb d 42) neither in
@@ -41,7 +41,7 @@ no_part c (d ∷ more) no_blank no_comment =
 pub not_blank : (c : ℕ) (more : List ℕ) → part_len (c ∷ more) ≡ 0 → is_blank c ≡ false
 unfolding part_len
 not_blank c more none =
-    elim (test (is_blank c)) as (λ _. is_blank c ≡ false) [
+    elim (cases_Bool (is_blank c)) as (λ _. is_blank c ≡ false) [
       | inl blank ↦ let one : ◌≡◌ {A = ℕ} 1 0 = rw blank at none in absurd (omega arith)
       | inr other ↦ other
     ]
@@ -141,7 +141,7 @@ number_there at c more s behind whole number size some is =
     let rest : drop (number_len (c ∷ more)) (c ∷ more) ≡ behind = ap (drop (number_len (c ∷ more))) whole ∙ drop_at s behind (number_len (c ∷ more)) (sym size) in
     let longest = longest_of kinds.Number c more (number_len (c ∷ more)) is (number_most_at c more) in
     let not_none : eqb (number_len (c ∷ more)) 0 ≡ false = ne_eqb _ 0 (λ e. omega arith) in
-    elim (test (goes_on_as_word behind)) as (λ _. StandsAt at (c ∷ more) (number_at at (c ∷ more))) [
+    elim (cases_Bool (goes_on_as_word behind)) as (λ _. StandsAt at (c ∷ more) (number_at at (c ∷ more))) [
       | inl goes ↦ rw (not_none, rest, goes)
           (number_len (c ∷ more), refl, inr (inl (record { spelled = s; behind = behind; whole = whole; spelling = number; longest = subst (λ (k : ℕ). IsLongest (c ∷ more) k) size longest; goes_on = goes; size = size })))
       | inr ends ↦ rw (not_none, rest, ends)
@@ -172,7 +172,7 @@ open_comment at c (d ∷ more) begins none =
     let both = and_parts (eqb c 47) (eqb d 47 || eqb d 42) begins in
     let slash : c ≡ 47 = eqb-true c 47 both.0 in
     let no_blank : is_blank c ≡ false = ap is_blank slash in
-    elim (test (eqb d 47)) as (λ _. StandsAt at (c ∷ d ∷ more) (Err (faults.OpenComment at))) [
+    elim (cases_Bool (eqb d 47)) as (λ _. StandsAt at (c ∷ d ∷ more) (Err (faults.OpenComment at))) [
       | inl line ↦ let some : 0 < part_len (c ∷ d ∷ more) = rw (no_blank, both.0, line) (omega arith) in absurd (omega arith)
       | inr other ↦ elim (or_cases (eqb d 47) (eqb d 42) both.1) as (λ _. StandsAt at (c ∷ d ∷ more) (Err (faults.OpenComment at))) [
         | inl line ↦ absurd (both_ways (eqb d 47) other line)
@@ -200,7 +200,7 @@ sign_stands_by : (at c : ℕ) (more : List ℕ) (n : ℕ) → sign_len (c ∷ mo
     → StandsAt at (c ∷ more) (sign_at at (c ∷ more))
 unfolding sign_at
 sign_stands_by at c more n len none is =
-    elim (test (begins_comment (c ∷ more))) as (λ _. StandsAt at (c ∷ more) (sign_at at (c ∷ more))) [
+    elim (cases_Bool (begins_comment (c ∷ more))) as (λ _. StandsAt at (c ∷ more) (sign_at at (c ∷ more))) [
       | inl comment ↦ rw comment (open_comment at c more comment none)
       | inr other ↦ rw other (sign_or_nothing at c more n len none is other)
     ]
@@ -240,7 +240,7 @@ text_closed at c more quote is closes =
     let size : length front ≡ n = length-prefix_len is_text_byte more in
     let next = text_goes_on more (drop n more) refl closes in
     let all : more ≡ front ++ next.0 ∷ next.1 = span_parts is_text_byte more ∙ ap (λ (t : List ℕ). front ++ t) next.2 in
-    elim (test (eqb next.0 34)) as (λ _. StandsAt at (c ∷ more) (cond (eqb (get_or more n 0) 34) (token kinds.Text at (n + 2)) (Err (faults.BadByte (at + 1 + n))))) [
+    elim (cases_Bool (eqb next.0 34)) as (λ _. StandsAt at (c ∷ more) (cond (eqb (get_or more n 0) 34) (token kinds.Text at (n + 2)) (Err (faults.BadByte (at + 1 + n))))) [
       | inl closing ↦
           let end : next.0 ≡ 34 = eqb-true next.0 34 closing in
           let whole : c ∷ more ≡ (34 ∷ (front ++ 34 ∷ [])) ++ next.1 = text_whole c more front next.1 next.0 quote end all in
@@ -260,7 +260,7 @@ text_closed at c more quote is closes =
 text_stands : (at c : ℕ) (more : List ℕ) → c ≡ 34 → kind_of c ≡ kinds.Text → StandsAt at (c ∷ more) (text_at at more)
 unfolding text_at
 text_stands at c more quote is =
-    elim (test (closes_on_line more)) as (λ _. StandsAt at (c ∷ more) (text_at at more)) [
+    elim (cases_Bool (closes_on_line more)) as (λ _. StandsAt at (c ∷ more) (text_at at more)) [
       | inl closes ↦ rw closes (text_closed at c more quote is closes)
       | inr unclosed ↦ rw unclosed (refl, (more, ap (λ (x : ℕ). x ∷ more) quote, unclosed))
     ]
@@ -271,13 +271,13 @@ pub stands : (at : ℕ) (bytes : List ℕ) → part_len bytes ≡ 0 → StandsAt
 unfolding standing
 stands at [] none = refl
 stands at (c ∷ more) none =
-    elim (test (begins_word c)) as (λ _. StandsAt at (c ∷ more) (standing at (c ∷ more))) [
+    elim (cases_Bool (begins_word c)) as (λ _. StandsAt at (c ∷ more) (standing at (c ∷ more))) [
       | inl word ↦ rw word (word_stands at c more word (rw word refl))
-      | inr no_word ↦ elim (test (is_digit c || eqb c 46)) as (λ _. StandsAt at (c ∷ more) (standing at (c ∷ more))) [
+      | inr no_word ↦ elim (cases_Bool (is_digit c || eqb c 46)) as (λ _. StandsAt at (c ∷ more) (standing at (c ∷ more))) [
         | inl number ↦ rw (no_word, number) (number_stands_by at c more (number_len (c ∷ more)) refl (not_blank c more none) (rw (no_word, number) refl))
-        | inr no_number ↦ elim (test (eqb c 34)) as (λ _. StandsAt at (c ∷ more) (standing at (c ∷ more))) [
+        | inr no_number ↦ elim (cases_Bool (eqb c 34)) as (λ _. StandsAt at (c ∷ more) (standing at (c ∷ more))) [
           | inl quote ↦ rw (no_word, no_number, quote) (text_stands at c more (eqb-true c 34 quote) (rw (no_word, no_number, quote) refl))
-          | inr no_quote ↦ elim (test (eqb c 64)) as (λ _. StandsAt at (c ∷ more) (standing at (c ∷ more))) [
+          | inr no_quote ↦ elim (cases_Bool (eqb c 64)) as (λ _. StandsAt at (c ∷ more) (standing at (c ∷ more))) [
             | inl mark ↦ rw (no_word, no_number, no_quote, mark) (note_stands at c more (eqb-true c 64 mark) (rw (no_word, no_number, no_quote, mark) refl))
             | inr no_mark ↦ rw (no_word, no_number, no_quote, no_mark) (sign_stands_by at c more (sign_len (c ∷ more)) refl none (rw (no_word, no_number, no_quote, no_mark) refl))
           ]

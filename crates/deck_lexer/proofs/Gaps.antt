@@ -1,7 +1,7 @@
 -- Laws of gaps: what the first part of one is, that a gap grows by it, and that a text has one gap at its front.
 use Rattle.std.proofs.Common.{◌≡◌, ℕ, suc, ◌+◌, ◌-◌, ◌<◌, ◌≤◌, ◌⊎◌, inl, inr, true, eqb, List, [], ◌∷◌, ◌++◌, length, take, drop, Option, Some, None, refl, sym, ap, subst, ◌∙◌, arith, append_assoc, length-append, length-drop}
 use Rattle.std.specs.List.{prefix_len, list_all}
-use Rattle.std.proofs.lemmas.Bool.{eqb-true, lt-ltb, le-ltb, not-false}
+use Rattle.std.proofs.lemmas.Bool.{eqb-true, lt-ltb, le-ltb, not-false, cases_Bool}
 use Rattle.std.proofs.Math.Seq.{take-length, drop-length}
 use Rattle.std.proofs.lemmas.Grind.{common_steps}
 use Rattle.std.proofs.lemmas.List.{drop_at, append-nil}
@@ -11,7 +11,7 @@ use Rattle.deck_lexer.specs.Bytes.{is_blank, is_in_line}
 use Rattle.deck_lexer.specs.Tokens.{Part, Blank, Line, Block, part_text, parts_text, IsPart, IsGap}
 use Rattle.deck_lexer.specs.Working.Reading.{line_len, block_len, block_part, comment_len, part_len}
 use Rattle.deck_lexer.specs.Working.Gaps.{Passes}
-use Rattle.deck_lexer.proofs.Spans.{test, Stops, span_passes, span_stops, span_parts}
+use Rattle.deck_lexer.proofs.Spans.{Stops, span_passes, span_stops, span_parts}
 use Rattle.deck_lexer.proofs.Blocks.{TakesBlock, block_takes}
 
 -- ---- The first part of a gap
@@ -61,11 +61,11 @@ block_len_takes tail (Some n) e some = block_part_takes tail n (block_takes tail
 comment_takes : (more : List ℕ) → 0 < comment_len more → TakesPart (47 ∷ more) (comment_len more)
 comment_takes [] some = absurd (omega arith)
 comment_takes (d ∷ tail) some =
-    elim (test (eqb d 47)) as (λ _. TakesPart (47 ∷ d ∷ tail) (comment_len (d ∷ tail))) [
+    elim (cases_Bool (eqb d 47)) as (λ _. TakesPart (47 ∷ d ∷ tail) (comment_len (d ∷ tail))) [
       | inl slash ↦
           let is : d ≡ 47 = eqb-true d 47 slash in
           rw (slash, is) (line_takes tail)
-      | inr other ↦ elim (test (eqb d 42)) as (λ _. TakesPart (47 ∷ d ∷ tail) (comment_len (d ∷ tail))) [
+      | inr other ↦ elim (cases_Bool (eqb d 42)) as (λ _. TakesPart (47 ∷ d ∷ tail) (comment_len (d ∷ tail))) [
         | inl star ↦
             let is : d ≡ 42 = eqb-true d 42 star in
             let there : 0 < block_part (block_len tail) = rw (other, star) at some in
@@ -80,9 +80,9 @@ pub part_takes : (bytes : List ℕ) → 0 < part_len bytes → TakesPart bytes (
 unfolding part_len
 part_takes [] some = absurd (omega arith)
 part_takes (c ∷ more) some =
-    elim (test (is_blank c)) as (λ _. TakesPart (c ∷ more) (part_len (c ∷ more))) [
+    elim (cases_Bool (is_blank c)) as (λ _. TakesPart (c ∷ more) (part_len (c ∷ more))) [
       | inl blank ↦ rw blank (inl (Blank c, more, blank, refl, refl))
-      | inr other ↦ elim (test (eqb c 47)) as (λ _. TakesPart (c ∷ more) (part_len (c ∷ more))) [
+      | inr other ↦ elim (cases_Bool (eqb c 47)) as (λ _. TakesPart (c ∷ more) (part_len (c ∷ more))) [
         | inl slash ↦
             let is : c ≡ 47 = eqb-true c 47 slash in
             let there : 0 < comment_len more = rw (other, slash) at some in

@@ -1,14 +1,14 @@
 -- The lengths of the longest spellings: what so many bytes are, and that no spelling is longer.
 use Rattle.std.proofs.Common.{◌≡◌, ℕ, ◌+◌, ◌<◌, ◌≤◌, inl, inr, true, false, cond, eqb, ltb, ◌&&◌, List, [], ◌∷◌, ◌++◌, length, take, drop, refl, sym, ap, ◌∙◌, arith, append_assoc, length-append}
 use Rattle.std.specs.List.{prefix_len, list_all}
-use Rattle.std.proofs.lemmas.Bool.{and_parts, eqb-true, lt-ltb, ltb-true}
+use Rattle.std.proofs.lemmas.Bool.{and_parts, eqb-true, lt-ltb, ltb-true, cases_Bool}
 use Rattle.std.proofs.lemmas.Bool.Decides.{nat_tests}
 use Rattle.std.proofs.lemmas.List.{drop_at}
 use Rattle.std.proofs.lemmas.List.Folds.{length-prefix_len}
 use Rattle.deck_lexer.specs.Bytes.{is_digit, is_text_byte, is_sign, begins_comparison}
 use Rattle.deck_lexer.specs.Tokens.{IsNumber, IsSign, closes_on_line}
 use Rattle.deck_lexer.specs.Working.Reading.{with_point, number_len, sign_len}
-use Rattle.deck_lexer.proofs.Spans.{test, span_passes, span_len, span_holds, span_parts}
+use Rattle.deck_lexer.proofs.Spans.{span_passes, span_len, span_holds, span_parts}
 
 -- ---- Numbers
 
@@ -27,7 +27,7 @@ point_takes bytes [] e some = whole_only bytes some
 point_takes bytes (c ∷ more) e some =
     let whole = prefix_len is_digit bytes in
     let fraction = prefix_len is_digit more in
-    elim (test (eqb c 46 && ltb 0 (whole + fraction))) as (λ _. TakesNumber bytes (with_point whole (c ∷ more))) [
+    elim (cases_Bool (eqb c 46 && ltb 0 (whole + fraction))) as (λ _. TakesNumber bytes (with_point whole (c ∷ more))) [
       | inl holds ↦
           let both = and_parts (eqb c 46) (ltb 0 (whole + fraction)) holds in
           let point : c ≡ 46 = eqb-true c 46 both.0 in
@@ -54,7 +54,7 @@ number_takes bytes some = point_takes bytes (drop (prefix_len is_digit bytes) by
 with_point_least : (whole : ℕ) (rest : List ℕ) → whole ≤ with_point whole rest
 with_point_least whole [] = omega arith
 with_point_least whole (c ∷ more) =
-    elim (test (eqb c 46 && ltb 0 (whole + prefix_len is_digit more))) as (λ _. whole ≤ with_point whole (c ∷ more)) [
+    elim (cases_Bool (eqb c 46 && ltb 0 (whole + prefix_len is_digit more))) as (λ _. whole ≤ with_point whole (c ∷ more)) [
       | inl holds ↦ rw holds (omega arith)
       | inr fails ↦ rw fails (omega arith)
     ]
@@ -89,7 +89,7 @@ TakesSign bytes n = (s behind : List ℕ) × (bytes ≡ s ++ behind) × IsSign s
 
 single_takes : (c : ℕ) (more : List ℕ) → 0 < cond (is_sign c) 1 0 → TakesSign (c ∷ more) (cond (is_sign c) 1 0)
 single_takes c more some =
-    elim (test (is_sign c)) as (λ _. TakesSign (c ∷ more) (cond (is_sign c) 1 0)) [
+    elim (cases_Bool (is_sign c)) as (λ _. TakesSign (c ∷ more) (cond (is_sign c) 1 0)) [
       | inl holds ↦ rw holds (c ∷ [], more, refl, (c, inl (refl, holds)), refl)
       | inr fails ↦ let nothing : 0 < 0 = rw fails at some in absurd (omega arith)
     ]
@@ -98,7 +98,7 @@ pub sign_takes : (bytes : List ℕ) → 0 < sign_len bytes → TakesSign bytes (
 sign_takes [] some = absurd (omega arith)
 sign_takes (c ∷ []) some = single_takes c [] some
 sign_takes (c ∷ d ∷ more) some =
-    elim (test (begins_comparison c && eqb d 61)) as (λ _. TakesSign (c ∷ d ∷ more) (sign_len (c ∷ d ∷ more))) [
+    elim (cases_Bool (begins_comparison c && eqb d 61)) as (λ _. TakesSign (c ∷ d ∷ more) (sign_len (c ∷ d ∷ more))) [
       | inl holds ↦
           let both = and_parts (begins_comparison c) (eqb d 61) holds in
           let equal : d ≡ 61 = eqb-true d 61 both.1 in
@@ -111,7 +111,7 @@ sign_takes (c ∷ d ∷ more) some =
 one_least : (c : ℕ) (more : List ℕ) → is_sign c ≡ true → 1 ≤ sign_len (c ∷ more)
 one_least c [] is = rw is (omega arith)
 one_least c (d ∷ more) is =
-    elim (test (begins_comparison c && eqb d 61)) as (λ _. 1 ≤ sign_len (c ∷ d ∷ more)) [
+    elim (cases_Bool (begins_comparison c && eqb d 61)) as (λ _. 1 ≤ sign_len (c ∷ d ∷ more)) [
       | inl holds ↦ rw holds (omega arith)
       | inr fails ↦ rw (fails, is) (omega arith)
     ]

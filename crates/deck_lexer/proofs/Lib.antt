@@ -1,9 +1,9 @@
 pub mod Spans
-pub mod Blocks
-pub mod Gaps
+mod Blocks
+mod Gaps
 pub mod FirstBytes
 pub mod Lens
 pub mod Fronts
 pub mod OneAnswer
 pub mod OneGap
-pub mod TokenLaws
+mod TokenLaws

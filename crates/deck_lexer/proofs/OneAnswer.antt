@@ -2,7 +2,7 @@
 use Rattle.std.proofs.Common.{◌≡◌, ℕ, suc, zero, ◌+◌, ◌<◌, ◌≤◌, ◌⊎◌, inl, inr, true, false, eqb, ◌||◌, List, [], ◌∷◌, ◌++◌, length, take, drop, get_or, Option, Some, None, Result, Ok, Err, refl, sym, ap, subst, ◌∙◌, arith, length-append}
 use Rattle.std.specs.List.{prefix_len}
 use Rattle.std.proofs.Math.Seq.{get_or-append_seam}
-use Rattle.std.proofs.lemmas.Bool.{ne_eqb, eq-eqb, eqb-true}
+use Rattle.std.proofs.lemmas.Bool.{ne_eqb, eq-eqb, eqb-true, cases_Bool}
 use Rattle.std.proofs.lemmas.List.{drop_at}
 use Rattle.std.proofs.lemmas.List.Folds.{length-prefix_len}
 use Rattle.deck_lexer.specs.declared.token.Token.{Token}
@@ -13,7 +13,7 @@ use Rattle.deck_lexer.specs.declared.token.LexFault.TheVariants as faults
 use Rattle.deck_lexer.specs.Bytes.{is_digit, begins_word, continues_word, is_text_byte, is_in_line}
 use Rattle.deck_lexer.specs.Tokens.{IsSpelling, IsNumber, begins_comment, goes_on_as_word, MayFollow, IsLongest, closes_on_line, IsTokenAt, BeginsNothing, RunsOn, HoldsBadByte, StandsAt}
 use Rattle.deck_lexer.specs.Working.Reading.{kind_of, part_len, number_len, sign_len, token, number_at, sign_at, text_at, standing_as, standing}
-use Rattle.deck_lexer.proofs.Spans.{test, span_passes, span_len, span_parts}
+use Rattle.deck_lexer.proofs.Spans.{span_passes, span_len, span_parts}
 use Rattle.deck_lexer.proofs.Blocks.{no_block}
 use Rattle.deck_lexer.proofs.FirstBytes.{kind_at_front, spelling_begins}
 use Rattle.deck_lexer.proofs.Lens.{number_takes, sign_takes, closes_behind}
@@ -119,13 +119,13 @@ token_only at (c ∷ more) t is =
 -- which byte begins a token of a kind
 word_kind : (c : ℕ) → kind_of c ≡ kinds.Word → begins_word c ≡ true
 word_kind c is =
-    elim (test (begins_word c)) as (λ _. begins_word c ≡ true) [
+    elim (cases_Bool (begins_word c)) as (λ _. begins_word c ≡ true) [
       | inl word ↦ word
-      | inr no_word ↦ elim (test (is_digit c || eqb c 46)) as (λ _. begins_word c ≡ true) [
+      | inr no_word ↦ elim (cases_Bool (is_digit c || eqb c 46)) as (λ _. begins_word c ≡ true) [
         | inl number ↦ let e : kinds.Number ≡ kinds.Word = rw (no_word, number) at is in absurd cc
-        | inr no_number ↦ elim (test (eqb c 34)) as (λ _. begins_word c ≡ true) [
+        | inr no_number ↦ elim (cases_Bool (eqb c 34)) as (λ _. begins_word c ≡ true) [
           | inl quote ↦ let e : kinds.Text ≡ kinds.Word = rw (no_word, no_number, quote) at is in absurd cc
-          | inr no_quote ↦ elim (test (eqb c 64)) as (λ _. begins_word c ≡ true) [
+          | inr no_quote ↦ elim (cases_Bool (eqb c 64)) as (λ _. begins_word c ≡ true) [
             | inl mark ↦ let e : kinds.Note ≡ kinds.Word = rw (no_word, no_number, no_quote, mark) at is in absurd cc
             | inr no_mark ↦ let e : kinds.Sign ≡ kinds.Word = rw (no_word, no_number, no_quote, no_mark) at is in absurd cc
           ]
@@ -135,13 +135,13 @@ word_kind c is =
 
 text_kind : (c : ℕ) → kind_of c ≡ kinds.Text → c ≡ 34
 text_kind c is =
-    elim (test (begins_word c)) as (λ _. c ≡ 34) [
+    elim (cases_Bool (begins_word c)) as (λ _. c ≡ 34) [
       | inl word ↦ let e : kinds.Word ≡ kinds.Text = rw word at is in absurd cc
-      | inr no_word ↦ elim (test (is_digit c || eqb c 46)) as (λ _. c ≡ 34) [
+      | inr no_word ↦ elim (cases_Bool (is_digit c || eqb c 46)) as (λ _. c ≡ 34) [
         | inl number ↦ let e : kinds.Number ≡ kinds.Text = rw (no_word, number) at is in absurd cc
-        | inr no_number ↦ elim (test (eqb c 34)) as (λ _. c ≡ 34) [
+        | inr no_number ↦ elim (cases_Bool (eqb c 34)) as (λ _. c ≡ 34) [
           | inl quote ↦ eqb-true c 34 quote
-          | inr no_quote ↦ elim (test (eqb c 64)) as (λ _. c ≡ 34) [
+          | inr no_quote ↦ elim (cases_Bool (eqb c 64)) as (λ _. c ≡ 34) [
             | inl mark ↦ let e : kinds.Note ≡ kinds.Text = rw (no_word, no_number, no_quote, mark) at is in absurd cc
             | inr no_mark ↦ let e : kinds.Sign ≡ kinds.Text = rw (no_word, no_number, no_quote, no_mark) at is in absurd cc
           ]
@@ -151,13 +151,13 @@ text_kind c is =
 
 note_kind : (c : ℕ) → kind_of c ≡ kinds.Note → c ≡ 64
 note_kind c is =
-    elim (test (begins_word c)) as (λ _. c ≡ 64) [
+    elim (cases_Bool (begins_word c)) as (λ _. c ≡ 64) [
       | inl word ↦ let e : kinds.Word ≡ kinds.Note = rw word at is in absurd cc
-      | inr no_word ↦ elim (test (is_digit c || eqb c 46)) as (λ _. c ≡ 64) [
+      | inr no_word ↦ elim (cases_Bool (is_digit c || eqb c 46)) as (λ _. c ≡ 64) [
         | inl number ↦ let e : kinds.Number ≡ kinds.Note = rw (no_word, number) at is in absurd cc
-        | inr no_number ↦ elim (test (eqb c 34)) as (λ _. c ≡ 64) [
+        | inr no_number ↦ elim (cases_Bool (eqb c 34)) as (λ _. c ≡ 64) [
           | inl quote ↦ let e : kinds.Text ≡ kinds.Note = rw (no_word, no_number, quote) at is in absurd cc
-          | inr no_quote ↦ elim (test (eqb c 64)) as (λ _. c ≡ 64) [
+          | inr no_quote ↦ elim (cases_Bool (eqb c 64)) as (λ _. c ≡ 64) [
             | inl mark ↦ eqb-true c 64 mark
             | inr no_mark ↦ let e : kinds.Sign ≡ kinds.Note = rw (no_word, no_number, no_quote, no_mark) at is in absurd cc
           ]

@@ -1,15 +1,10 @@
 -- Spans: the bytes at the front of a text that pass a test.
 use Rattle.std.proofs.Common.{◌≡◌, ℕ, suc, ◌+◌, ◌<◌, ◌≤◌, ◌⊎◌, inl, inr, Bool, true, false, List, [], ◌∷◌, ◌++◌, length, take, drop, refl, sym, arith}
 use Rattle.std.specs.List.{prefix_len, list_all}
-use Rattle.std.proofs.lemmas.Bool.{and_parts}
+use Rattle.std.proofs.lemmas.Bool.{and_parts, cases_Bool}
 use Rattle.std.proofs.lemmas.List.{get_or-take, take-append-drop}
 use Rattle.std.proofs.lemmas.List.Folds.{length-prefix_len}
 use Rattle.std.proofs.lemmas.List.Sums.{prefix_len_passes, list_all-from_AllPass}
-
--- a test is true or false
-pub test : (b : Bool) → (b ≡ true) ⊎ (b ≡ false)
-test true = inl refl
-test false = inr refl
 
 -- no more bytes of the span follow
 abbrev pub Stops : (ℕ → Bool) → List ℕ → Type 0
@@ -26,7 +21,7 @@ span_passes p bytes = list_all-from_AllPass p _ (λ k d lt.
 pub span_stops : (p : ℕ → Bool) (bytes : List ℕ) → Stops p (drop (prefix_len p bytes) bytes)
 span_stops p [] = tt
 span_stops p (b ∷ more) =
-    elim (test (p b)) [
+    elim (cases_Bool (p b)) [
       | inl holds ↦ let one : 1 + prefix_len p more ≡ suc (prefix_len p more) = omega arith in rw (holds, one) (span_stops p more)
       | inr fails ↦ rw fails fails
     ]

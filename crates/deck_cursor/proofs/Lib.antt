@@ -1,0 +1,4 @@
+mod Within
+pub mod Numbering
+mod Rounds
+pub mod Lists

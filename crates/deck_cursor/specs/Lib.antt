@@ -1,0 +1,5 @@
+pub mod Places
+pub mod Inside
+pub mod Working
+pub mod Decks
+pub mod Steps

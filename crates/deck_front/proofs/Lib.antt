@@ -1,0 +1,6 @@
+mod Members
+mod Listing
+mod Derived
+mod Fitting
+mod Emptying
+mod Following
