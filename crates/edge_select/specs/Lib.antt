@@ -1,0 +1,2 @@
+pub mod LengthLimits
+pub mod Working

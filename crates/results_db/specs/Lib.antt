@@ -1,0 +1,5 @@
+pub mod Results
+pub mod Reports
+pub mod Making
+pub mod Contents
+pub mod Working
