@@ -9,7 +9,7 @@ use Rattle.std.specs.List.{before_first, position_or_len, insert, filter}
 use mathlib.Core.Bool.{true≢false}
 use Rattle.chunked_list.specs.Chunks.{joined, AreFull}
 use Rattle.chunked_list.specs.Stretches.{from_first, last, IsMonotone}
-use Rattle.chunked_list.specs.Working.Places.{items_of, lead, trail, before_place, behind_place, replaced, begins_passed, IsAround, IsWrittenOver}
+use Rattle.chunked_list.specs.Working.Places.{items_of, lead, trail, before_place, behind_place, replaced, begins_passed, IsAround, change, IsWrittenOver}
 use Rattle.chunked_list.proofs.Stretches.{AllFail, IsStop, all_before, before_behind, before_ended, before_join, by_test, fails_before, from_behind, from_join, past_failed}
 
 drop_past : {Y : Type 0} (n : ℕ) (xs ys : List Y) → length xs ≤ n → drop n (xs ++ ys) ≡ drop (n - length xs) ys
@@ -281,19 +281,19 @@ module _ {X : Type 0} where
   -- ---- what writing over one chunk leaves
 
   module _ (cs : List (Vec X)) (k i count : ℕ) (new : List (Vec X)) (within : k < length cs) where
-    pub over_length : (now : List X) → IsWrittenOver cs k i count now new → length new ≡ length cs
+    pub over_length : (now : List X) → IsWrittenOver cs (change k i count now) new → length new ≡ length cs
     over_length now w = ap length w.set ∙ length_set cs k w.written
 
-    pub over_full : (now : List X) → IsWrittenOver cs k i count now new → AreFull cs → 0 < length (items_of new k) → AreFull new
+    pub over_full : (now : List X) → IsWrittenOver cs (change k i count now) new → AreFull cs → 0 < length (items_of new k) → AreFull new
     over_full now w f l =
         let e : items_of new k ≡ w.written.items = ap (λ bs. items_of bs k) w.set ∙ items_set cs k w.written within in
         subst AreFull (sym w.set) (full_set cs k w.written f (subst (λ (xs : List X). 0 < length xs) e l))
 
-    pub over_last : (left : List X) → IsWrittenOver cs k i count left new → i + count ≤ length (items_of cs k) → joined new ≡ replaced cs k i count left
+    pub over_last : (left : List X) → IsWrittenOver cs (change k i count left) new → i + count ≤ length (items_of cs k) → joined new ≡ replaced cs k i count left
     over_last left w l =
         ap joined w.set ∙ put_last cs k i count w.written within (omega arith) left l w.items
 
-  module _ (cs : List (Vec X)) (k i count gone : ℕ) (now later left : List X) (new : List (Vec X)) (within : k < length cs) (at : i ≤ length (items_of cs k)) (all : gone ≡ length (items_of cs k) - i) (less : gone < count) (most : count ≤ length (behind_place cs k i)) (over : IsWrittenOver cs k i gone now new) where
+  module _ (cs : List (Vec X)) (k i count gone : ℕ) (now later left : List X) (new : List (Vec X)) (within : k < length cs) (at : i ≤ length (items_of cs k)) (all : gone ≡ length (items_of cs k) - i) (less : gone < count) (most : count ≤ length (behind_place cs k i)) (over : IsWrittenOver cs (change k i gone now) new) where
     pub over_goes_on : k + 1 < length new
     over_goes_on =
         let l = goes_on cs k i count over.written within at gone now later all less most over.items in

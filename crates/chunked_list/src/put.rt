@@ -2,7 +2,7 @@
 
 ghost use Rattle.std.specs.Prelude.{◌≡◌, ◌+◌, ◌-◌, ◌<◌, ◌≤◌, ◌++◌, false, length, nat_lt, OnOk, IfOk};
 ghost use Rattle.chunked_list.specs.Chunks.{joined, AreFull};
-ghost use Rattle.chunked_list.specs.Working.Places.{items_of, behind_place, replaced, IsWrittenOver};
+ghost use Rattle.chunked_list.specs.Working.Places.{items_of, behind_place, replaced, change, IsWrittenOver};
 
 use crate::chunk::replace_items;
 use std::alloc::{AllocError, Global};
@@ -76,7 +76,7 @@ fn write_over<T: Copy>(
 ) -> Result<bool, AllocError>
     requires chunk { chunk < length chunks.old.items }
     requires place { place + count ≤ length (items_of chunks.old.items chunk) }
-    ensures items { OnOk result (IsWrittenOver chunks.old.items chunk place count with.now chunks.new.items) }
+    ensures items { OnOk result (IsWrittenOver chunks.old.items (change chunk place count with.now) chunks.new.items) }
     ensures empty { IfOk result (λ is_empty. is_empty ≡ false → 0 < length (items_of chunks.new.items chunk)) }
 {
     let written = &mut chunks[chunk];

@@ -1,4 +1,4 @@
 mod Within
 pub mod Numbering
 mod Rounds
-pub mod Lists
+mod Lists

@@ -1,5 +1,6 @@
 -- A stack whose rules may all spell nothing can spell no tokens, and no other can.
 use Rattle.std.proofs.Common.{◌≡◌, ◌&&◌, Bool, true, false, List, [], ◌∷◌, ◌++◌, refl, sym, ap, subst}
+use Rattle.std.proofs.lemmas.Bool.{and_parts}
 use Rattle.deck_grammar.specs.Rules as r
 use Rattle.deck_grammar.specs.Rules.{Rule, Part, token, rule}
 use Rattle.deck_grammar.specs.Alternatives as a
@@ -158,16 +159,11 @@ none_of r.side h = absurd (cc)
 none_of (r.distance kind) h = absurd (cc)
 none_of (r.options those) h = record { it = a.no_option; is_empty = refl }
 
-both : (x y : Bool) → (x && y) ≡ true → (x ≡ true) × (y ≡ true)
-both true true h = (refl, refl)
-both true false h = absurd (cc)
-both false y h = absurd (cc)
-
 pub all_empties : (parts : List Part) → all_empty parts ≡ true → Empties parts
 all_empties [] h = no_part
 all_empties (token k ∷ parts) h = absurd (cc)
 all_empties (rule q ∷ parts) h =
-    let each = both (may_be_empty q) (all_empty parts) h in
+    let each = and_parts (may_be_empty q) (all_empty parts) h in
     let none = none_of q each.0 in
     let P : List Part → Type 0 = λ those. Empties (those ++ parts) in
     by_none none.it (subst P (sym none.is_empty) (all_empties parts each.1))

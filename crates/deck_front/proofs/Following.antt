@@ -1,5 +1,6 @@
 -- The stacks behind a token more, and what they say of the tokens.
 use Rattle.std.proofs.Common.{◌≡◌, ℕ, zero, suc, ◌+◌, ◌*◌, ◌≤◌, ◌||◌, ◌⊎◌, inl, inr, Bool, true, false, List, [], ◌∷◌, ◌++◌, length, refl, sym, ap, subst, ◌∙◌, append_assoc, append-nil, arith, lit≤}
+use Rattle.std.proofs.lemmas.Bool.{cases_Bool}
 use Rattle.std.specs.Prelude.{if◌then◌else◌}
 use Rattle.std.specs.List.{flat_map}
 use Rattle.deck_tree.specs.declared.statement.Statement.{Statement}
@@ -137,12 +138,8 @@ pub deck_may_end : (before : List Lexeme) (all : List Statement) (stacks : List 
 deck_may_end before all stacks b s =
     let c = b.complete whole [] (at_nothing before (deck_fits s)) in (c.0, c.1, stops c.2)
 
-either : (b : Bool) → (b ≡ true) ⊎ (b ≡ false)
-either true = inl refl
-either false = inr refl
-
 pub decided : (stack : List Part) → Empties stack ⊎ (Empties stack → ⊥)
-decided stack = elim (either (all_empty stack)) [
+decided stack = elim (cases_Bool (all_empty stack)) [
   | inl is ↦ inl (all_empties stack is)
   | inr is ↦ inr (λ e. let no : false ≡ true = sym is ∙ empties_all e in absurd (cc))
 ]

@@ -1,11 +1,11 @@
-pub mod Cuts
+mod Cuts
 mod Examples
 pub mod Fronts
-pub mod Starts
+mod Starts
 pub mod Readings
 pub mod Unique
-pub mod Tables
+mod Tables
 pub mod Refused
 mod Worked
-pub mod OnceFacts
+mod OnceFacts
 mod WorkedFronts

@@ -1,9 +1,9 @@
 pub mod Spans
 mod Blocks
 mod Gaps
-pub mod FirstBytes
+mod FirstBytes
 pub mod Lens
 pub mod Fronts
-pub mod OneAnswer
+mod OneAnswer
 pub mod OneGap
 mod TokenLaws

@@ -1,7 +1,7 @@
-pub mod Lexing
-pub mod Pieces
-pub mod Values
-pub mod Layers
-pub mod Lines
-pub mod Places
-pub mod PlacesOfLayers
+mod Lexing
+mod Pieces
+mod Values
+mod Layers
+mod Lines
+mod Places
+mod PlacesOfLayers

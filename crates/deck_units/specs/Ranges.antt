@@ -15,20 +15,20 @@ abbrev pub IsUnits : Fraction → (scale : ℕ) → ℤ → Type 0
 IsUnits q scale n = n *ℤ pos q.den ≡ q.num *ℤ pos scale
 
 -- the value lies in the range
-pub record IsWithin (q : Fraction) (range : Range) : Type 0 where
+pub record IsInRange (q : Fraction) (range : Range) : Type 0 where
   pub low : (range.low *ℤ pos q.den) ≤ℤ (q.num *ℤ pos range.scale)
   pub high : IfSome range.high (λ high. (q.num *ℤ pos range.scale) ≤ℤ (high *ℤ pos q.den))
 
 -- within the range, and no whole number of units
 pub record IsBetween (q : Fraction) (range : Range) : Type 0 where
-  pub within : IsWithin q range
+  pub within : IsInRange q range
   pub between : (n : ℤ) → ¬ IsUnits q range.scale n
 
 -- What is said of a value: its units; that it is out of range; or that it is within the range and off grid. A count that
 -- isn't whole is out of range.
 abbrev pub IsMeasure : Fraction → Range → Result ℤ UnitFault → Type 0
-IsMeasure q range (Ok n) = IsUnits q range.scale n × IsWithin q range
-IsMeasure q range (Err fault.ValueRange) = (¬ IsWithin q range) ⊎ ((range.is_count ≡ true) × IsBetween q range)
+IsMeasure q range (Ok n) = IsUnits q range.scale n × IsInRange q range
+IsMeasure q range (Err fault.ValueRange) = (¬ IsInRange q range) ⊎ ((range.is_count ≡ true) × IsBetween q range)
 IsMeasure q range (Err fault.OffGrid) = (range.is_count ≡ false) × IsBetween q range
 
 -- the greatest length, in database units, that a check or an operation takes

@@ -35,23 +35,23 @@ impl Checker {
     }
 
     /// Takes one more record, or refuses it and stays as it is.
-    pub fn take(&mut self, record: &Record) -> Result<(), LayoutRefusal>
-        ensures taken { OnOk result ((items : List Item) → HasTaken items self.old → HasTaken (items ++ item_of record.now ∷ []) self.new) }
-        ensures refused { IfErr result (λ refusal. (refusal.at ≡ record.now.at)
-            × ((items : List Item) → HasTaken items self.old → IsFact self.old.precision items (item_of record.now) refusal.kind)) }
+    pub fn take(&mut self, item: &Record) -> Result<(), LayoutRefusal>
+        ensures taken { OnOk result ((items : List Item) → HasTaken items self.old → HasTaken (items ++ item_of item.now ∷ []) self.new) }
+        ensures refused { IfErr result (λ refusal. (refusal.at ≡ item.now.at)
+            × ((items : List Item) → HasTaken items self.old → IsFact self.old.precision items (item_of item.now) refusal.kind)) }
         ensures unchanged { IfErr result (λ refusal. self.new ≡ self.old) }
         ensures precision { self.new.precision ≡ self.old.precision }
     {
-        let Some(slot) = self.slot.next(record.kind) else {
-            return Err(refusal(record, LayoutKind::UnexpectedRecord));
+        let Some(slot) = self.slot.next(item.kind) else {
+            return Err(refusal(item, LayoutKind::UnexpectedRecord));
         };
-        if !has_good_data(self.line, record) {
-            return Err(refusal(record, LayoutKind::BadData));
+        if !has_good_data(self.line, item) {
+            return Err(refusal(item, LayoutKind::BadData));
         }
-        if !self.agrees(record) {
-            return Err(refusal(record, LayoutKind::UnitsMismatch));
+        if !self.agrees(item) {
+            return Err(refusal(item, LayoutKind::UnitsMismatch));
         }
-        self.line = opened_by(record.kind).or(self.line);
+        self.line = opened_by(item.kind).or(self.line);
         self.slot = slot;
         Ok(())
     }
@@ -65,19 +65,16 @@ impl Checker {
     ghost use Rattle.gds_facts.specs.Facts.{Agrees};
 
     // Where the record is UNITS, do they agree with the precision?
-    fn agrees(&self, record: &Record) -> bool
-        requires { code_of Units ≡ record.now.kind → 8 ≤ length record.now.body.items }
-        ensures { IsTrue result ↔ Agrees self.now.precision (item_of record.now) }
+    fn agrees(&self, item: &Record) -> bool
+        requires { code_of Units ≡ item.now.kind → 8 ≤ length item.now.body.items }
+        ensures { IsTrue result ↔ Agrees self.now.precision (item_of item.now) }
     {
-        !record.has_type(RecordType::Units) || real_at(&record.body, 0).near_inverse(self.precision)
+        !item.has_type(RecordType::Units) || real_at(&item.body, 0).near_inverse(self.precision)
     }
 }
 
-fn refusal(record: &Record, kind: LayoutKind) -> LayoutRefusal
-    ensures { result ≡ record { at = record.now.at; kind = kind } }
+fn refusal(item: &Record, kind: LayoutKind) -> LayoutRefusal
+    ensures { result ≡ record { at = item.now.at; kind = kind } }
 {
-    LayoutRefusal {
-        at: record.at,
-        kind,
-    }
+    LayoutRefusal { at: item.at, kind }
 }

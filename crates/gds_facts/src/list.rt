@@ -15,8 +15,8 @@ pub fn first_fact(records: &[Record], precision: u32) -> Option<LayoutRefusal>
     ensures refused { IfSome result (λ refusal. IsRefused precision (map item_of records.now) refusal) }
 {
     let mut checker = Checker::new(precision);
-    for record in records {
-        if let Err(refusal) = checker.take(record) {
+    for item in records {
+        if let Err(refusal) = checker.take(item) {
             return Some(refusal);
         }
     }

@@ -1,3 +1,2 @@
-mod Reordered
 mod StepFacts
 mod Around

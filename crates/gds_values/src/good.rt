@@ -11,16 +11,16 @@ use gds_records::Record;
 
 /// Are the data of a record as its type asks for in this element, or outside of elements? Its type is one that the
 /// grammar allows there: what this says is BadData where it answers no.
-pub fn has_good_data(line: Option<Line>, record: &Record) -> bool
-    ensures { IsTrue result ↔ HasGoodData line (item_of record.now) }
+pub fn has_good_data(line: Option<Line>, item: &Record) -> bool
+    ensures { IsTrue result ↔ HasGoodData line (item_of item.now) }
 {
-    let Some(kind) = record.record_type() else {
+    let Some(kind) = item.record_type() else {
         return true;
     };
     let Some(rule) = rule_of(kind) else {
         return true;
     };
-    record.data_form() == Some(rule.form) && has_contents(line, rule.contents, &record.body)
+    item.data_form() == Some(rule.form) && has_contents(line, rule.contents, &item.body)
 }
 
 fn has_contents(line: Option<Line>, contents: Contents, body: &[u8]) -> bool

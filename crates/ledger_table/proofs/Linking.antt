@@ -2,11 +2,11 @@
 use Rattle.std.proofs.Common.{◌≡◌, ℕ, ◌+◌, ◌*◌, ◌<◌, List, length, get_or, set, Option, None, Some, inl, inr, sym, ◌∙◌, subst, arith}
 use Rattle.std.proofs.lemmas.Bool.{cases_eq}
 use Rattle.std.proofs.lemmas.List.{length-set}
-use Rattle.std.proofs.lemmas.Option.{slice_get-get_or}
+use Rattle.std.proofs.lemmas.Option.{same_Some, slice_get-get_or}
 use Rattle.std.specs.Prelude.{slice_get}
 use Rattle.layer_model.specs.declared.wiring.Wire.{Wire}
 use Rattle.ledger_table.specs.Working.Places.{read_at, IsLastBelow, AreLinked}
-use Rattle.ledger_table.proofs.Slots.{some_same, slot_other, slot_is}
+use Rattle.ledger_table.proofs.Slots.{slot_other, slot_is}
 
 -- a place that reads another operation changes nothing
 pub last_stays : (ws : List Wire) (j bound : ℕ) (o : Option ℕ) → IsLastBelow ws j bound o → (read_at ws bound ≡ Some j → ⊥) → IsLastBelow ws j (bound + 1) o
@@ -23,7 +23,7 @@ linked_some ws last earlier place op l h g r =
       earliers = length-set earlier place (get_or last op None) ∙ l.earliers;
       last_reader = λ j o e. elim (cases_eq j op) [
         | inl s ↦ subst (λ k. IsLastBelow ws k (place + 1) o) (sym s) (at_op o (slot_is last op (Some place) o (subst (λ k. slice_get (set last op (Some place)) k ≡ Some o) s e)))
-        | inr s ↦ last_stays ws j place o (l.last_reader j o (sym (slot_other last op j (Some place) s) ∙ e)) (λ q. s (sym (some_same op j (sym r ∙ q))))
+        | inr s ↦ last_stays ws j place o (l.last_reader j o (sym (slot_other last op j (Some place) s) ∙ e)) (λ q. s (sym (same_Some op j (sym r ∙ q))))
       ];
       earlier_reader = λ p j o b q e. elim (cases_eq p place) [
         | inl s ↦ at_place p j o s (subst (λ k. read_at ws k ≡ Some j) s q) (subst (λ k. slice_get (set earlier place (get_or last op None)) k ≡ Some o) s e)
@@ -36,7 +36,7 @@ linked_some ws last earlier place op l h g r =
 
     at_place : (p j : ℕ) (o : Option ℕ) → p ≡ place → read_at ws place ≡ Some j → slice_get (set earlier place (get_or last op None)) place ≡ Some o → IsLastBelow ws j p o
     at_place p j o s q e =
-        let x : op ≡ j = some_same op j (sym r ∙ q) in
+        let x : op ≡ j = same_Some op j (sym r ∙ q) in
         let y : get_or last op None ≡ o = slot_is earlier place (get_or last op None) o e in
         let z : op < length last = omega (arith, l.lasts) in
         let a : IsLastBelow ws op place (get_or last op None) = l.last_reader op (get_or last op None) (slice_get-get_or last op None z) in

@@ -1,6 +1,6 @@
 -- What marks say of the ends of operations.
 use Rattle.std.proofs.Common.{◌≡◌, ℕ, ◌<◌, Bool, true, false, ◌&&◌, List, [], length, map, get_or, slice_index, refl, sym, ◌∙◌, ap, subst, arith}
-use Rattle.std.proofs.lemmas.Option.{slice_get-get_or, slice_get-map, slice_get_within}
+use Rattle.std.proofs.lemmas.Option.{same_Some, slice_get-get_or, slice_get-map, slice_get_within}
 use Rattle.std.proofs.lemmas.List.{length-map}
 use Rattle.std.specs.Prelude.{option_map}
 use lib.Dec.{leb}
@@ -12,7 +12,6 @@ use Rattle.ledger_history.specs.Enabled.{Legal}
 use Rattle.ledger_history.proofs.Releases.{finished_by_count}
 use Rattle.ledger_table.specs.declared.mark.Mark.{Mark}
 use Rattle.ledger_table.specs.Marks.{MarkOf, MarksOf, wired, run_of, fresh}
-use Rattle.ledger_table.proofs.Slots.{some_same}
 
 pub done_by_mark : (ws : List Wire) (budget workers : ℕ) (h : List Event) (marks : List Mark) (op : ℕ) (d : Mark) → IsWiring ws → MarksOf ws h marks → Legal (run_of ws budget workers h) h → op < length marks
     → ((get_or marks op d).published && leb (input_count ws op) (get_or marks op d).released) ≡ is_finished (wired ws) h op
@@ -36,7 +35,7 @@ marks_start ws counts c =
           let b = slice_get_within (map fresh counts) i m e in
           let h : i < length counts = omega (arith, length-map counts fresh) in
           let g : i < length ws = omega (arith, c.all) in
-          let r : fresh (slice_index counts i) ≡ m = some_same _ _ (sym (slice_get-map fresh counts i ∙ ap (option_map fresh) (slice_get-get_or counts i 0 h)) ∙ e) in
+          let r : fresh (slice_index counts i) ≡ m = same_Some _ _ (sym (slice_get-map fresh counts i ∙ ap (option_map fresh) (slice_get-get_or counts i 0 h)) ∙ e) in
           by_count i m (slice_index counts i) r (c.count i g);
     }
   where

@@ -17,7 +17,7 @@ use Rattle.ledger_table.specs.declared.mark.Mark.{Mark}
 use Rattle.ledger_table.specs.Marks.{MarksOf, run_of}
 use Rattle.ledger_table.specs.Working.Places.{read_at, IsLastBelow, IsReaderOf, bound_of}
 use Rattle.ledger_table.specs.Flags.{is_in, has_inputs, is_open, FlagsOf}
-use Rattle.ledger_table.specs.Working.Openings.{OpensFrom, Opening}
+use Rattle.ledger_table.specs.Working.Openings.{OpensFrom, Opening, published, walk}
 use Rattle.ledger_table.proofs.Slots.{slot_written, slot_other}
 
 -- an input that is in stays so
@@ -74,7 +74,7 @@ open_with ws h i b c e = ap (λ p. not p && has_inputs ws h i) c ∙ e
 -- one reader is done
 pub opens_next : (ws : List Wire) (budget workers w j q : ℕ) (h : List Event) (o : Option ℕ) (flags : List Bool)
     → Legal (run_of ws budget workers (Publish w j ∷ h)) (Publish w j ∷ h) → q < 2 * length ws → read_at ws q ≡ Some j → IsLastBelow ws j q o
-    → OpensFrom ws h w j (q + 1) flags → OpensFrom ws h w j (bound_of o) (cond (has_inputs ws (Publish w j ∷ h) (q / 2)) (set flags (q / 2) true) flags)
+    → OpensFrom (published ws h w j) (q + 1) flags → OpensFrom (published ws h w j) (bound_of o) (cond (has_inputs ws (Publish w j ∷ h) (q / 2)) (set flags (q / 2) true) flags)
 opens_next ws budget workers w j q h o flags l b r k f =
     by_test (has_inputs ws (Publish w j ∷ h) (q / 2)) refl
   where
@@ -100,7 +100,7 @@ opens_next ws budget workers w j q h o flags l b r k f =
     other i n (inl e) = inl e
     other i n (inr (e, g)) = inr (e, none_between i n g o k)
 
-    by_test : (t : Bool) → has_inputs ws (Publish w j ∷ h) (q / 2) ≡ t → OpensFrom ws h w j (bound_of o) (cond t (set flags (q / 2) true) flags)
+    by_test : (t : Bool) → has_inputs ws (Publish w j ∷ h) (q / 2) ≡ t → OpensFrom (published ws h w j) (bound_of o) (cond t (set flags (q / 2) true) flags)
     by_test true t = record {
       all = length-set flags (q / 2) true ∙ f.all;
       each = λ i a. elim (cases_eq i (q / 2)) [
@@ -125,7 +125,7 @@ opens_next ws budget workers w j q h o flags l b r k f =
     }
 
 -- where no reader is left below, all flags are as they should be
-pub opens_all : (ws : List Wire) (h : List Event) (w j : ℕ) (flags : List Bool) → OpensFrom ws h w j 0 flags → FlagsOf ws (Publish w j ∷ h) flags
+pub opens_all : (ws : List Wire) (h : List Event) (w j : ℕ) (flags : List Bool) → OpensFrom (published ws h w j) 0 flags → FlagsOf ws (Publish w j ∷ h) flags
 opens_all ws h w j flags f =
     record {
       all = f.all;
@@ -136,7 +136,7 @@ opens_all ws h w j flags f =
     }
 
 -- the walk begins at the last reader
-pub opening_starts : (ws : List Wire) (marks : List Mark) (j : ℕ) (flags : List Bool) (o : Option ℕ) → IsLastBelow ws j (2 * length ws) o → length flags ≡ length ws → Opening ws marks j flags o flags
+pub opening_starts : (ws : List Wire) (marks : List Mark) (j : ℕ) (flags : List Bool) (o : Option ℕ) → IsLastBelow ws j (2 * length ws) o → length flags ≡ length ws → Opening (walk ws marks j flags) o flags
 opening_starts ws marks j flags o l n =
     record {
       reader = at_last o l;
@@ -153,16 +153,16 @@ opening_starts ws marks j flags o l n =
     none_above (Some q) t p b e = let i = input_is_there ws (p / 2) (p % 2) j e in t.2 p (omega arith) (omega arith) e
 
 -- and goes on at the one before
-pub opening_goes_on : (ws : List Wire) (marks : List Mark) (j : ℕ) (before flags after : List Bool) (q : ℕ) (o : Option ℕ) → Opening ws marks j before (Some q) flags
+pub opening_goes_on : (ws : List Wire) (marks : List Mark) (j : ℕ) (before flags after : List Bool) (q : ℕ) (o : Option ℕ) → Opening (walk ws marks j before) (Some q) flags
     → ((h : List Event) → MarksOf ws h marks → after ≡ cond (has_inputs ws h (q / 2)) (set flags (q / 2) true) flags)
-    → length after ≡ length flags → ((m : ℕ) → read_at ws q ≡ Some m → IsLastBelow ws m q o) → Opening ws marks j before o after
+    → length after ≡ length flags → ((m : ℕ) → read_at ws q ≡ Some m → IsLastBelow ws m q o) → Opening (walk ws marks j before) o after
 opening_goes_on ws marks j before flags after q o p s n k =
     let r = p.reader in
     record {
       reader = lower o (k j r.1);
       all = n ∙ p.all;
       opens = λ budget workers w h g m f.
-          subst (λ x. OpensFrom ws h w j (bound_of o) x) (sym (s (Publish w j ∷ h) m))
+          subst (λ x. OpensFrom (published ws h w j) (bound_of o) x) (sym (s (Publish w j ∷ h) m))
           (opens_next ws budget workers w j q h o flags g r.0 r.1 (k j r.1) (p.opens budget workers w h g m f));
     }
   where

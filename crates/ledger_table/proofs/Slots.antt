@@ -2,12 +2,9 @@
 use Rattle.std.proofs.Common.{◌≡◌, ℕ, ◌-◌, ◌<◌, List, length, set, take, drop, replicate, reverse, ◌++◌, Some, inl, inr, sym, ◌∙◌, ap, arith}
 use Rattle.std.proofs.lemmas.Bool.{cases_lt}
 use Rattle.std.proofs.lemmas.List.{length-set, get_or-set_same, get_or-set_other, take-append-drop, reverse-append, length-reverse, length-drop, length-replicate, get_or-replicate}
-use Rattle.std.proofs.lemmas.Option.{slice_get-get_or, slice_get_past, slice_get_within, get_or_from_slice_get}
+use Rattle.std.proofs.lemmas.Option.{same_Some, slice_get-get_or, slice_get_past, slice_get_within, get_or_from_slice_get}
 use Rattle.std.proofs.Math.Seq.{take-append_seam}
 use Rattle.std.specs.Prelude.{slice_get}
-
-pub some_same : {X : Type 0} (x y : X) → Some x ≡ Some y → x ≡ y
-some_same x y e = cc
 
 pub slot_written : {X : Type 0} (xs : List X) (i : ℕ) (y : X) → i < length xs → slice_get (set xs i y) i ≡ Some y
 slot_written xs i y h =
@@ -24,7 +21,7 @@ slot_other xs i j y n =
 pub slot_is : {X : Type 0} (xs : List X) (i : ℕ) (y x : X) → slice_get (set xs i y) i ≡ Some x → y ≡ x
 slot_is xs i y x e =
     let h = slice_get_within (set xs i y) i x e in
-    some_same y x (sym (slot_written xs i y (omega (arith, length-set xs i y))) ∙ e)
+    same_Some y x (sym (slot_written xs i y (omega (arith, length-set xs i y))) ∙ e)
 
 -- the end of a list, turned round
 pub reversed_end : {X : Type 0} (xs : List X) (n : ℕ) → take (length xs - n) (reverse xs) ≡ reverse (drop n xs)

@@ -18,7 +18,7 @@ use Rattle.ledger_table.specs.Ledgers.{Ledger, charged_cost, IsAllowed}
 use Rattle.ledger_table.specs.Marks.{MarksOf, wired, run_of}
 use Rattle.ledger_table.specs.Flags.{FlagsOf, is_open, has_inputs}
 use Rattle.ledger_table.specs.Ends.{IsLowest}
-use Rattle.ledger_table.specs.Tables.{Stands}
+use Rattle.ledger_table.specs.Tables.{Parts, Stands}
 use Rattle.ledger_table.proofs.Costs.{legal_grows}
 use Rattle.ledger_table.proofs.Totals.{events_fit, let_go_same, total_after_release, release_has_reader}
 use Rattle.ledger_table.proofs.Holding.{held_after_claim, held_after_stop, held_after_end}
@@ -27,13 +27,27 @@ use Rattle.ledger_table.proofs.Slots.{slot_written, slot_other}
 abbrev pub ledger_by : List Wire → ℕ → List (Option ℕ) → List Event → Ledger
 ledger_by ws budget kept h = record { wires = ws; budget = budget; workers = length kept; events = h }
 
+abbrev parts : List Wire → ℕ → List Event → List Mark → List (Option ℕ) → List Bool → (lowest total : ℕ) → Bool → ℕ → Parts
+parts ws budget h marks kept ready lowest total stopped room = record {
+  wires = ws;
+  budget = budget;
+  events = h;
+  marks = marks;
+  held = kept;
+  ready = ready;
+  lowest = lowest;
+  total = total;
+  stopped = stopped;
+  room = room;
+}
+
 pub legal_next : (ws : List Wire) (budget : ℕ) (h : List Event) (marks : List Mark) (kept : List (Option ℕ)) (ready : List Bool) (lowest total : ℕ) (stopped : Bool) (room : ℕ) (e : Event)
-    → Stands ws budget h marks kept ready lowest total stopped room → IsAllowed (ledger_by ws budget kept h) e → Legal (run_of ws budget (length kept) (e ∷ h)) (e ∷ h)
+    → Stands (parts ws budget h marks kept ready lowest total stopped room) → IsAllowed (ledger_by ws budget kept h) e → Legal (run_of ws budget (length kept) (e ∷ h)) (e ∷ h)
 legal_next ws budget h marks kept ready lowest total stopped room e s a = legal_grows ws budget (length kept) h e s.legal a
 
 -- there is room for one more event
 pub room_left : (ws : List Wire) (budget : ℕ) (h : List Event) (marks : List Mark) (kept : List (Option ℕ)) (ready : List Bool) (lowest total : ℕ) (stopped : Bool) (room : ℕ) (e : Event)
-    → Stands ws budget h marks kept ready lowest total stopped room → IsAllowed (ledger_by ws budget kept h) e → 0 < room
+    → Stands (parts ws budget h marks kept ready lowest total stopped room) → IsAllowed (ledger_by ws budget kept h) e → 0 < room
 room_left ws budget h marks kept ready lowest total stopped room e s a =
     let l = legal_next ws budget h marks kept ready lowest total stopped room e s a in
     let f = events_fit (run_of ws budget (length kept) (e ∷ h)) (e ∷ h) l in
@@ -58,8 +72,8 @@ flags_after_claim ws h w i flags b f =
     }
 
 pub claim_stands : (ws : List Wire) (budget : ℕ) (h : List Event) (marks after : List Mark) (kept : List (Option ℕ)) (ready : List Bool) (lowest total : ℕ) (stopped : Bool) (room left w i : ℕ)
-    → Stands ws budget h marks kept ready lowest total stopped room → IsAllowed (ledger_by ws budget kept h) (Claim w i) → MarksOf ws (Claim w i ∷ h) after → left + 1 ≡ room
-    → Stands ws budget (Claim w i ∷ h) after (set kept w (Some i)) (set ready i false) lowest total stopped left
+    → Stands (parts ws budget h marks kept ready lowest total stopped room) → IsAllowed (ledger_by ws budget kept h) (Claim w i) → MarksOf ws (Claim w i ∷ h) after → left + 1 ≡ room
+    → Stands (parts ws budget (Claim w i ∷ h) after (set kept w (Some i)) (set ready i false) lowest total stopped left)
 claim_stands ws budget h marks after kept ready lowest total stopped room left w i s a m r =
     let n = length-set kept w (Some i) in
     let p = s.space in
@@ -79,8 +93,8 @@ claim_stands ws budget h marks after kept ready lowest total stopped room left w
     }
 
 pub charge_stands : (ws : List Wire) (budget : ℕ) (h : List Event) (marks after : List Mark) (kept : List (Option ℕ)) (ready : List Bool) (lowest total : ℕ) (stopped : Bool) (room left w i c : ℕ)
-    → Stands ws budget h marks kept ready lowest total stopped room → IsAllowed (ledger_by ws budget kept h) (Charge w i c) → MarksOf ws (Charge w i c ∷ h) after → left + 1 ≡ room → c < 2 ^ 64
-    → Stands ws budget (Charge w i c ∷ h) after kept ready lowest (total + c) stopped left
+    → Stands (parts ws budget h marks kept ready lowest total stopped room) → IsAllowed (ledger_by ws budget kept h) (Charge w i c) → MarksOf ws (Charge w i c ∷ h) after → left + 1 ≡ room → c < 2 ^ 64
+    → Stands (parts ws budget (Charge w i c ∷ h) after kept ready lowest (total + c) stopped left)
 charge_stands ws budget h marks after kept ready lowest total stopped room left w i c s a m r b =
     let l = legal_next ws budget h marks kept ready lowest total stopped room (Charge w i c) s a in
     let p = s.space in
@@ -100,8 +114,8 @@ charge_stands ws budget h marks after kept ready lowest total stopped room left 
     }
 
 pub stop_stands : (ws : List Wire) (budget : ℕ) (h : List Event) (marks : List Mark) (kept : List (Option ℕ)) (ready : List Bool) (lowest total : ℕ) (stopped : Bool) (room left w : ℕ)
-    → Stands ws budget h marks kept ready lowest total stopped room → IsAllowed (ledger_by ws budget kept h) (Stop w) → left + 1 ≡ room
-    → Stands ws budget (Stop w ∷ h) marks (set kept w None) ready lowest total true left
+    → Stands (parts ws budget h marks kept ready lowest total stopped room) → IsAllowed (ledger_by ws budget kept h) (Stop w) → left + 1 ≡ room
+    → Stands (parts ws budget (Stop w ∷ h) marks (set kept w None) ready lowest total true left)
 stop_stands ws budget h marks kept ready lowest total stopped room left w s a r =
     let n = length-set kept w None in
     let p = s.space in
@@ -129,9 +143,9 @@ crew_cond kept w true = length-set kept w None
 crew_cond kept w false = refl
 
 pub publish_stands : (ws : List Wire) (budget : ℕ) (h : List Event) (marks after : List Mark) (kept : List (Option ℕ)) (ready opened : List Bool) (lowest next total : ℕ) (stopped : Bool) (room left w i : ℕ)
-    → Stands ws budget h marks kept ready lowest total stopped room → IsAllowed (ledger_by ws budget kept h) (Publish w i) → MarksOf ws (Publish w i ∷ h) after → left + 1 ≡ room
+    → Stands (parts ws budget h marks kept ready lowest total stopped room) → IsAllowed (ledger_by ws budget kept h) (Publish w i) → MarksOf ws (Publish w i ∷ h) after → left + 1 ≡ room
     → FlagsOf ws (Publish w i ∷ h) opened → IsLowest ws (Publish w i ∷ h) next
-    → Stands ws budget (Publish w i ∷ h) after (cond (is_finished (wired ws) (Publish w i ∷ h) i) (set kept w None) kept) opened next total stopped left
+    → Stands (parts ws budget (Publish w i ∷ h) after (cond (is_finished (wired ws) (Publish w i ∷ h) i) (set kept w None) kept) opened next total stopped left)
 publish_stands ws budget h marks after kept ready opened lowest next total stopped room left w i s a m r f o =
     let l = legal_next ws budget h marks kept ready lowest total stopped room (Publish w i) s a in
     let n = crew_cond kept w (is_finished (wired ws) (Publish w i ∷ h) i) in
@@ -152,9 +166,9 @@ publish_stands ws budget h marks after kept ready opened lowest next total stopp
     }
 
 pub release_stands : (ws : List Wire) (budget : ℕ) (h : List Event) (marks after : List Mark) (kept : List (Option ℕ)) (ready : List Bool) (lowest next total : ℕ) (stopped : Bool) (room left w i k j d : ℕ)
-    → Stands ws budget h marks kept ready lowest total stopped room → IsAllowed (ledger_by ws budget kept h) (Release w i k) → MarksOf ws (Release w i k ∷ h) after → left + 1 ≡ room
+    → Stands (parts ws budget h marks kept ready lowest total stopped room) → IsAllowed (ledger_by ws budget kept h) (Release w i k) → MarksOf ws (Release w i k ∷ h) after → left + 1 ≡ room
     → input ws i k ≡ Some j → d ≡ cond (is_let_go (wired ws) (Release w i k ∷ h) j) (charged_cost (Release w i k ∷ h) j) 0 → IsLowest ws (Release w i k ∷ h) next
-    → Stands ws budget (Release w i k ∷ h) after (cond (is_finished (wired ws) (Release w i k ∷ h) i) (set kept w None) kept) ready next (total - d) stopped left
+    → Stands (parts ws budget (Release w i k ∷ h) after (cond (is_finished (wired ws) (Release w i k ∷ h) i) (set kept w None) kept) ready next (total - d) stopped left)
 release_stands ws budget h marks after kept ready lowest next total stopped room left w i k j d s a m r e g o =
     let l = legal_next ws budget h marks kept ready lowest total stopped room (Release w i k) s a in
     let n = crew_cond kept w (is_finished (wired ws) (Release w i k ∷ h) i) in
@@ -178,7 +192,7 @@ release_stands ws budget h marks after kept ready lowest next total stopped room
 
 -- what stands where nothing has happened
 pub start_stands : (ws : List Wire) (budget : ℕ) (marks : List Mark) (kept : List (Option ℕ)) (ready : List Bool) (room : ℕ) → IsWiring ws → MarksOf ws [] marks → ((w : ℕ) (o : Option ℕ) → slice_get kept w ≡ Some o → o ≡ None)
-    → FlagsOf ws [] ready → room ≡ 5 * length ws + length kept → length kept < 2 ^ 32 → Stands ws budget [] marks kept ready 0 0 false room
+    → FlagsOf ws [] ready → room ≡ 5 * length ws + length kept → length kept < 2 ^ 32 → Stands (parts ws budget [] marks kept ready 0 0 false room)
 start_stands ws budget marks kept ready room v m k f r c =
     record {
       wiring = v;
@@ -196,7 +210,7 @@ start_stands ws budget marks kept ready room v m k f r c =
 
 -- a release takes no more out of the total than there is, and its place is out before it
 pub release_fits : (ws : List Wire) (budget : ℕ) (h : List Event) (marks : List Mark) (kept : List (Option ℕ)) (ready : List Bool) (lowest total : ℕ) (stopped : Bool) (room w i k j d : ℕ)
-    → Stands ws budget h marks kept ready lowest total stopped room → IsAllowed (ledger_by ws budget kept h) (Release w i k)
+    → Stands (parts ws budget h marks kept ready lowest total stopped room) → IsAllowed (ledger_by ws budget kept h) (Release w i k)
     → input ws i k ≡ Some j → d ≡ cond (is_let_go (wired ws) (Release w i k ∷ h) j) (charged_cost (Release w i k ∷ h) j) 0 → d ≤ total
 release_fits ws budget h marks kept ready lowest total stopped room w i k j d s a e g =
     let l = legal_next ws budget h marks kept ready lowest total stopped room (Release w i k) s a in
@@ -205,7 +219,7 @@ release_fits ws budget h marks kept ready lowest total stopped room w i k j d s 
     omega arith
 
 pub reader_is_out : (ws : List Wire) (budget : ℕ) (h : List Event) (marks : List Mark) (kept : List (Option ℕ)) (ready : List Bool) (lowest total : ℕ) (stopped : Bool) (room w i k j : ℕ) (x : Mark)
-    → Stands ws budget h marks kept ready lowest total stopped room → IsAllowed (ledger_by ws budget kept h) (Release w i k)
+    → Stands (parts ws budget h marks kept ready lowest total stopped room) → IsAllowed (ledger_by ws budget kept h) (Release w i k)
     → input ws i k ≡ Some j → x.left + returns (wired ws) h j ≡ reader_count ws j → 0 < x.left
 reader_is_out ws budget h marks kept ready lowest total stopped room w i k j x s a e g =
     let l = legal_next ws budget h marks kept ready lowest total stopped room (Release w i k) s a in

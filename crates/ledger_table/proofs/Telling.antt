@@ -1,7 +1,7 @@
 -- What a table tells, from what stands in it.
 use Rattle.std.proofs.Common.{◌≡◌, ◌⊎◌, ◌↔◌, ℕ, zero, suc, ◌+◌, ◌<◌, ◌≤◌, IsTrue, Bool, true, false, List, length, Option, None, Some, inl, inr, refl, sym, ◌∙◌, ap, subst, arith}
 use Rattle.std.proofs.lemmas.Bool.{cases_Bool, cases_lt, le-leb, leb-true, and_parts, and_from, and_left}
-use Rattle.std.proofs.lemmas.Option.{slice_get_within}
+use Rattle.std.proofs.lemmas.Option.{same_Some, slice_get_within}
 use Rattle.std.specs.Prelude.{slice_get}
 use lib.Dec.{leb}
 use Rattle.layer_model.specs.declared.wiring.Wire.{Wire}
@@ -20,7 +20,6 @@ use Rattle.ledger_table.specs.Ledgers.{Ledger, setup_with}
 use Rattle.ledger_table.specs.Marks.{wired, run_of}
 use Rattle.ledger_table.specs.Flags.{FlagsOf, is_in, is_open}
 use Rattle.ledger_table.specs.Ends.{IsLowest}
-use Rattle.ledger_table.proofs.Slots.{some_same}
 
 -- ---- of an operation that isn't there nothing has happened
 
@@ -100,7 +99,7 @@ complete_by_lowest ws h m l = (
 
 in_is : (h : List Event) (o : Option ℕ) → is_in h o ≡ true → (j : ℕ) → o ≡ Some j → is_published h j ≡ true
 in_is h None e j q = absurd cc
-in_is h (Some m) e j q = subst (λ k. is_published h k ≡ true) (some_same m j q) e
+in_is h (Some m) e j q = subst (λ k. is_published h k ≡ true) (same_Some m j q) e
 
 is_in_by : (h : List Event) (o : Option ℕ) → ((j : ℕ) → o ≡ Some j → is_published h j ≡ true) → is_in h o ≡ true
 is_in_by h None p = refl
@@ -130,16 +129,16 @@ pub next_by_flags : (s : Setup) (h : List Event) (flags : List Bool) (n : ℕ) �
 next_by_flags s h flags n f l =
     let b : n < operations s = let a = slice_get_within flags n true l.member in omega (arith, f.all) in
     record {
-      ready = ready_from_open s h n b (some_same _ _ (sym (f.each n b) ∙ l.member));
+      ready = ready_from_open s h n b (same_Some _ _ (sym (f.each n b) ∙ l.member));
       lowest = λ j r. elim (cases_lt j n) [
-        | inl c ↦ clash (open_from_ready s h j r) (some_same _ _ (sym (f.each j r.there) ∙ l.lowest j c))
+        | inl c ↦ clash (open_from_ready s h j r) (same_Some _ _ (sym (f.each j r.there) ∙ l.lowest j c))
         | inr c ↦ c
       ];
     }
 
 pub none_by_flags : (s : Setup) (h : List Event) (flags : List Bool) → FlagsOf s.wires h flags → IsEmpty flags → (i : ℕ) → IsReady s h i → ⊥
 none_by_flags s h flags f e i r =
-    clash (open_from_ready s h i r) (some_same _ _ (sym (f.each i r.there) ∙ e i (let a = f.all in let b = r.there in omega arith)))
+    clash (open_from_ready s h i r) (same_Some _ _ (sym (f.each i r.there) ∙ e i (let a = f.all in let b = r.there in omega arith)))
 
 -- ---- what a worker holds is there
 

@@ -7,15 +7,15 @@
 //! ```
 #![tactic(auto)]
 
+mod input_type;
 mod layer_type;
-mod row;
-mod slot;
+mod signature;
 mod table;
 
+pub use input_type::InputType;
 pub use layer_type::LayerType;
-pub use row::Row;
-pub use slot::Slot;
-pub use table::{row_of, type_given};
+pub use signature::Signature;
+pub use table::{signature_of, type_given};
 
 #[cfg(test)]
 mod tests;

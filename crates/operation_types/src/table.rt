@@ -1,10 +1,10 @@
 //! The table of all operations.
 
 ghost use Rattle.std.specs.Prelude.{◌≡◌, IfSome, IfNone};
-ghost use Rattle.operation_types.specs.TypeTable.{HasType, given_by, row_of, row, first_of_check, second_of_check, given_by_check};
+ghost use Rattle.operation_types.specs.TypeTable.{HasType, given_by, signature_of, signature, first_of_check, second_of_check, given_by_check};
 ghost use Rattle.operation_types.specs.declared.layer_type.LayerType.{LayerType};
 
-use crate::{LayerType, Row, Slot};
+use crate::{InputType, LayerType, Signature};
 use layer_model::{Gives, Op, Polygons, Rule, RuleKind};
 
 /// The type of the layer that the operation gives, where it takes inputs of these types.
@@ -16,18 +16,18 @@ pub fn type_given(
     ensures given { IfSome result (HasType operation.now first second) }
     ensures none { IfNone result ((t : LayerType) → HasType operation.now first second t → ⊥) }
 {
-    match row_of(operation) {
-        Some(row) => given_by(row, first, second),
+    match signature_of(operation) {
+        Some(signature) => given_by(signature, first, second),
         None => None,
     }
 }
 
 /// What the operation takes and gives; none for WRITE, which gives no layer.
-pub fn row_of(operation: &Op) -> Option<Row>
-    ensures { result ≡ row_of operation.now }
+pub fn signature_of(operation: &Op) -> Option<Signature>
+    ensures { result ≡ signature_of operation.now }
 {
     match operation {
-        Op::Drawn(_) => row(Slot::Nothing, Slot::Nothing, LayerType::Polygon),
+        Op::Drawn(_) => signature(InputType::Nothing, InputType::Nothing, LayerType::Polygon),
         Op::And
         | Op::Or
         | Op::Not
@@ -37,21 +37,29 @@ pub fn row_of(operation: &Op) -> Option<Row>
         | Op::Cut { .. }
         | Op::Touch { .. }
         | Op::Interact { .. }
-        | Op::Enclose { .. } => row(Slot::Polygons, Slot::Polygons, LayerType::Polygon),
+        | Op::Enclose { .. } => signature(
+            InputType::Polygons,
+            InputType::Polygons,
+            LayerType::Polygon,
+        ),
         Op::Size { .. }
         | Op::OverUnder { .. }
         | Op::UnderOver { .. }
         | Op::Area(_)
-        | Op::Rectangle => row(Slot::Polygons, Slot::Nothing, LayerType::Polygon),
+        | Op::Rectangle => signature(InputType::Polygons, InputType::Nothing, LayerType::Polygon),
         Op::ExpandInside { .. } | Op::ExpandOutside { .. } => {
-            row(Slot::Shapes, Slot::Nothing, LayerType::Polygon)
+            signature(InputType::Shapes, InputType::Nothing, LayerType::Polygon)
         }
-        Op::Length(_) | Op::Angle { .. } => row(Slot::Shapes, Slot::Nothing, LayerType::Edge),
+        Op::Length(_) | Op::Angle { .. } => signature(
+            InputType::Shapes,
+            InputType::Nothing,
+            LayerType::Edge,
+        ),
         Op::InsideEdge { .. } | Op::OutsideEdge { .. } | Op::CoincidentEdge { .. } => {
-            row(Slot::Shapes, Slot::Polygons, LayerType::Edge)
+            signature(InputType::Shapes, InputType::Polygons, LayerType::Edge)
         }
-        Op::OrEdge => row(Slot::Shapes, Slot::Shapes, LayerType::Edge),
-        Op::Check { rule, gives } => row(
+        Op::OrEdge => signature(InputType::Shapes, InputType::Shapes, LayerType::Edge),
+        Op::Check { rule, gives } => signature(
             first_of_check(rule.polygons),
             second_of_check(rule),
             given_by_check(*gives),
@@ -60,33 +68,33 @@ pub fn row_of(operation: &Op) -> Option<Row>
     }
 }
 
-fn row(first: Slot, second: Slot, gives: LayerType) -> Option<Row>
-    ensures { result ≡ row first second gives }
+fn signature(first: InputType, second: InputType, gives: LayerType) -> Option<Signature>
+    ensures { result ≡ signature first second gives }
 {
-    Some(Row {
+    Some(Signature {
         first,
         second,
         gives,
     })
 }
 
-fn first_of_check(polygons: Polygons) -> Slot
+fn first_of_check(polygons: Polygons) -> InputType
     ensures { result ≡ first_of_check polygons }
 {
     match polygons {
-        Polygons::Any => Slot::Shapes,
-        Polygons::Same | Polygons::Different => Slot::Polygons,
+        Polygons::Any => InputType::Shapes,
+        Polygons::Same | Polygons::Different => InputType::Polygons,
     }
 }
 
-fn second_of_check(rule: &Rule) -> Slot
+fn second_of_check(rule: &Rule) -> InputType
     ensures { result ≡ second_of_check rule.now.kind rule.now.polygons }
 {
     match (rule.kind, rule.polygons) {
-        (RuleKind::Enclosure, _) => Slot::Polygons,
-        (RuleKind::Internal | RuleKind::External, Polygons::Any) => Slot::MaybeShapes,
+        (RuleKind::Enclosure, _) => InputType::Polygons,
+        (RuleKind::Internal | RuleKind::External, Polygons::Any) => InputType::MaybeShapes,
         (RuleKind::Internal | RuleKind::External, Polygons::Same | Polygons::Different) =>
-            Slot::Nothing,
+            InputType::Nothing,
     }
 }
 
@@ -100,12 +108,16 @@ fn given_by_check(gives: Gives) -> LayerType
     }
 }
 
-/// What the row gives, where it takes the inputs.
-fn given_by(row: Row, first: Option<LayerType>, second: Option<LayerType>) -> Option<LayerType>
-    ensures { result ≡ given_by row first second }
+/// What the signature gives, where it takes the inputs.
+fn given_by(
+    signature: Signature,
+    first: Option<LayerType>,
+    second: Option<LayerType>,
+) -> Option<LayerType>
+    ensures { result ≡ given_by signature first second }
 {
-    if row.first.takes(first) && row.second.takes(second) {
-        Some(row.gives)
+    if signature.first.takes(first) && signature.second.takes(second) {
+        Some(signature.gives)
     } else {
         None
     }

@@ -1,5 +1,5 @@
 //! Rows of the table.
-use crate::{LayerType, Slot, row_of, type_given};
+use crate::{InputType, LayerType, signature_of, type_given};
 use layer_model::{Gives, Metric, Op, Polygons, Rule, RuleKind};
 
 fn check(kind: RuleKind, polygons: Polygons, gives: Gives) -> Op {
@@ -41,7 +41,7 @@ fn types_of_layers(rt: HostRuntime) {
         assert_eq!(rt; type_given(op, first, second), want);
     }
     assert_eq!(rt;
-        row_of(&Op::Rectangle).map(|row| row.second),
-        Some(Slot::Nothing)
+        signature_of(&Op::Rectangle).map(|signature| signature.second),
+        Some(InputType::Nothing)
     );
 }

@@ -1,2 +1,2 @@
-pub mod Growing
+mod Growing
 mod Shrinking

@@ -1,7 +1,7 @@
 -- Shrinking by what is outside: a square stays where no square outside is near.
 use Rattle.std.proofs.Common.{◌≡◌, ◌↔◌, Bool, true, false, not, ◌&&◌, ◌||◌, ℤ, pos, ◌+ℤ◌, ◌-ℤ◌, ◌≤ℤ◌, refl, sym, subst, ap, ◌∙◌, arith}
 use Rattle.std.proofs.lemmas.Int.{ints}
-use Rattle.std.proofs.lemmas.Bool.{and_from}
+use Rattle.std.proofs.lemmas.Bool.{and_from, not-true}
 use Rattle.std.specs.Cmp.{first_so, second_so}
 use Rattle.list_facts.specs.Between.{between}
 use Rattle.list_facts.proofs.Tests.{between_true, clash, from_between, or_right_known, up_to_between}
@@ -12,10 +12,6 @@ use Rattle.region_size.specs.Sizes.{AllNear, HasNear, IsNear, IsWithin, LieWithi
 by_bool : {A : Type 0} (b : Bool) → (b ≡ true → A) → (b ≡ false → A) → A
 by_bool true p q = p refl
 by_bool false p q = q refl
-
-not_true : (b : Bool) → not b ≡ true → b ≡ false
-not_true true e = sym e
-not_true false e = refl
 
 near_itself : (d x y : ℤ) → pos 0 ≤ℤ d → IsNear d x y x y
 near_itself d x y z = record { right = omega (arith, ints); left = omega (arith, ints); above = omega (arith, ints); below = omega (arith, ints) }
@@ -35,14 +31,14 @@ module _ (set all outside near after : Squares) (d : ℤ) (z : pos 0 ≤ℤ d) (
       (λ t.
       let h = (is_near x y).0 t in
       let o = second_so (all h.column h.row) (not (set h.column h.row)) (sym (is_outside h.column h.row) ∙ h.has) in
-      clash (set h.column h.row) (a h.column h.row h.near) (not_true (set h.column h.row) o))
+      clash (set h.column h.row) (a h.column h.row h.near) (not-true (set h.column h.row) o))
       (λ f. f)
 
   pub shrunk_is : (x y : ℤ) → (after x y ≡ true) ↔ AllNear set d x y
   shrunk_is x y = (
     λ t.
         let e = sym (is_after x y) ∙ t in
-        λ column row i. stays x y column row (first_so (set x y) (not (near x y)) e) (not_true (near x y) (second_so (set x y) (not (near x y)) e)) i,
+        λ column row i. stays x y column row (first_so (set x y) (not (near x y)) e) (not-true (near x y) (second_so (set x y) (not (near x y)) e)) i,
     λ a. is_after x y ∙ and_from _ _ (a x y (near_itself d x y z)) (ap not (goes x y a)),
   )
 

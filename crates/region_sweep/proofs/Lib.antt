@@ -2,3 +2,4 @@ mod EndFlips
 mod Turned
 mod CountedFlips
 mod Swept
+pub mod Reordered

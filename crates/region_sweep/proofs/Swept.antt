@@ -19,7 +19,7 @@ use Rattle.region_form.proofs.Parity.{is_odd_append, squares_append}
 use Rattle.region_sweep.specs.Counts.{Rise, times, times_up_to}
 use Rattle.region_sweep.specs.Working.Ends.{AscendStrictly, flips_of, is_odd_number, odd_ends}
 use Rattle.region_sweep.specs.Working.Lines.{lower_line}
-use Rattle.region_sweep.specs.Working.Sweeps.{IsSwept, repeated}
+use Rattle.region_sweep.specs.Working.Sweeps.{IsSwept, reached, repeated, sweep}
 use Rattle.region_sweep.proofs.CountedFlips.{repeated_counts, rise_monotone, rise_right, times_join, up_to_all, up_to_join, up_to_none}
 use Rattle.region_sweep.proofs.EndFlips.{below_flips, odd_flips, on_line, sorted_flips, sorted_join, squares_flips_above, squares_flips_below}
 
@@ -121,7 +121,7 @@ module _ {V : Type 0} (inside : V → Bool) (counted : ℕ → ℕ → V) (none 
   none_past [] = tt
   none_past (f ∷ fs) = ((tt, tt, tt), none_past fs)
 
-  pub begun : none ≡ counted 0 0 → inside (counted 0 0) ≡ false → IsSwept inside counted none first second [] [] first second
+  pub begun : none ≡ counted 0 0 → inside (counted 0 0) ≡ false → IsSwept (sweep inside counted none first second) (reached [] [] first second)
   begun e f = record {
     past_first = [];
     past_second = [];
@@ -136,7 +136,7 @@ module _ {V : Type 0} (inside : V → Bool) (counted : ℕ → ℕ → V) (none 
   }
 
   module _ (makes_first makes_second : V → V) (counts_first : (a b : ℕ) → makes_first (counted a b) ≡ counted (a + 1) b) (counts_second : (a b : ℕ) → makes_second (counted a b) ≡ counted a (b + 1)) (rise_first : Rise first) (rise_second : Rise second) where
-    module _ (row new_row : List (Entry V)) (out new_out left_first left_second : List Flip) (line : ℤ) (swept : IsSwept inside counted none first second row out left_first left_second) (is_next : Some line ≡ lower_line left_first left_second) where
+    module _ (row new_row : List (Entry V)) (out new_out left_first left_second : List Flip) (line : ℤ) (swept : IsSwept (sweep inside counted none first second) (reached row out left_first left_second)) (is_next : Some line ≡ lower_line left_first left_second) where
       lines : AllByRecursion (λ f. line ≤ℤ f.y) left_first × AllByRecursion (λ f. line ≤ℤ f.y) left_second
       lines = none_lower left_first left_second line is_next (rise_right swept.past_first left_first (subst Rise (sym swept.is_first) rise_first)) (rise_right swept.past_second left_second (subst Rise (sym swept.is_second) rise_second))
 
@@ -235,7 +235,7 @@ module _ {V : Type 0} (inside : V → Bool) (counted : ℕ → ℕ → V) (none 
           all_append (λ f. f.y <ℤ g.y) swept.past_second second_now (below_up line g.y swept.past_second (omega (arith, ints)) below.2) (all_weaker (λ f. f.y ≡ line) (λ f. f.y <ℤ g.y) (λ f k. omega (arith, ints)) second_now b.on),
         )
 
-        pub passed : IsSwept inside counted none first second new_row new_out first_later second_later
+        pub passed : IsSwept (sweep inside counted none first second) (reached new_row new_out first_later second_later)
         passed = record {
           past_first = swept.past_first ++ first_now;
           past_second = swept.past_second ++ second_now;
@@ -250,7 +250,7 @@ module _ {V : Type 0} (inside : V → Bool) (counted : ℕ → ℕ → V) (none 
         }
 
   -- where nothing is left
-  module _ (row : List (Entry V)) (out left_first left_second : List Flip) (swept : IsSwept inside counted none first second row out left_first left_second) (ended : None ≡ lower_line left_first left_second) where
+  module _ (row : List (Entry V)) (out left_first left_second : List Flip) (swept : IsSwept (sweep inside counted none first second) (reached row out left_first left_second)) (ended : None ≡ lower_line left_first left_second) where
     all_first : swept.past_first ≡ first
     all_first = sym (append-nil swept.past_first) ∙ (ap (λ fs. swept.past_first ++ fs) (sym (no_line left_first left_second ended).0) ∙ swept.is_first)
 

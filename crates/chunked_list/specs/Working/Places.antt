@@ -34,11 +34,21 @@ behind_place chunks k i = drop i (items_of chunks k) ++ trail chunks k
 abbrev pub replaced : {X : Type 0} → List (Vec X) → (chunk place count : ℕ) → List X → List X
 replaced chunks k i count with_items = before_place chunks k i ++ with_items ++ drop count (behind_place chunks k i)
 
--- one chunk is another, which has items in the place of so many from a place on
-pub record IsWrittenOver {X : Type 0} (old : List (Vec X)) (chunk place count : ℕ) (with_items : List X) (new : List (Vec X)) : Type 0 where
+-- a change of one chunk: items that come in the place of so many from a place on
+pub record Change (X : Type 0) : Type 0 where
+  pub chunk : ℕ
+  pub place : ℕ
+  pub count : ℕ
+  pub with_items : List X
+
+abbrev pub change : {X : Type 0} → (chunk place count : ℕ) → List X → Change X
+change chunk place count with_items = record { chunk = chunk; place = place; count = count; with_items = with_items }
+
+-- the chunks are others in that one, which was changed
+pub record IsWrittenOver {X : Type 0} (old : List (Vec X)) (by : Change X) (new : List (Vec X)) : Type 0 where
   pub written : Vec X
-  pub set : new ≡ slice_set old chunk written
-  pub items : written.items ≡ take place (items_of old chunk) ++ with_items ++ drop (place + count) (items_of old chunk)
+  pub set : new ≡ slice_set old by.chunk written
+  pub items : written.items ≡ take by.place (items_of old by.chunk) ++ by.with_items ++ drop (by.place + by.count) (items_of old by.chunk)
 
 -- the first item passes
 abbrev pub begins_passed : {X : Type 0} → (X → Bool) → List X → Bool

@@ -23,17 +23,39 @@ pub record StartsTo (ws : List Wire) (n : ℕ) (flags : List Bool) : Type 0 wher
   pub written : (i : ℕ) → i < n → slice_get flags i ≡ Some (is_open ws [] i)
   pub unwritten : (i : ℕ) → n ≤ i → i < length ws → slice_get flags i ≡ Some false
 
--- The flags after the publish of operation j. Those of operations whose places at or above the bound don't read j may
--- still be as before.
-pub record OpensFrom (ws : List Wire) (h : List Event) (w j bound : ℕ) (flags : List Bool) : Type 0 where
-  pub all : length flags ≡ length ws
-  pub each : (i : ℕ) → i < length ws
-      → (slice_get flags i ≡ Some (is_open ws (Publish w j ∷ h) i))
-      ⊎ ((slice_get flags i ≡ Some (is_open ws h i)) × ((p : ℕ) → bound ≤ p → p / 2 ≡ i → read_at ws p ≡ Some j → ⊥))
+-- a publish of operation j by worker w, behind these events
+pub record Published : Type 0 where
+  pub wires : List Wire
+  pub events : List Event
+  pub worker : ℕ
+  pub op : ℕ
 
--- where the walk down the readers of operation j stands
-pub record Opening (ws : List Wire) (marks : List Mark) (j : ℕ) (before : List Bool) (place : Option ℕ) (flags : List Bool) : Type 0 where
-  pub reader : IsReaderOf ws j place
-  pub all : length flags ≡ length ws
-  pub opens : (budget workers w : ℕ) (h : List Event) → Legal (run_of ws budget workers (Publish w j ∷ h)) (Publish w j ∷ h)
-      → MarksOf ws (Publish w j ∷ h) marks → FlagsOf ws h before → OpensFrom ws h w j (bound_of place) flags
+abbrev pub published : List Wire → List Event → (worker op : ℕ) → Published
+published wires events worker op = record { wires = wires; events = events; worker = worker; op = op }
+
+-- The flags after a publish. Those of operations whose places at or above the bound don't read its operation may still be
+-- as before.
+pub record OpensFrom (p : Published) (bound : ℕ) (flags : List Bool) : Type 0 where
+  pub all : length flags ≡ length p.wires
+  pub each : (i : ℕ) → i < length p.wires
+      → (slice_get flags i ≡ Some (is_open p.wires (Publish p.worker p.op ∷ p.events) i))
+      ⊎ ((slice_get flags i ≡ Some (is_open p.wires p.events i)) × ((q : ℕ) → bound ≤ q → q / 2 ≡ i → read_at p.wires q ≡ Some p.op → ⊥))
+
+-- a walk down the readers of operation j: what it begins with
+pub record Walk : Type 0 where
+  pub wires : List Wire
+  pub marks : List Mark
+  pub op : ℕ
+  pub before : List Bool
+
+abbrev pub walk : List Wire → List Mark → ℕ → List Bool → Walk
+walk wires marks op before = record { wires = wires; marks = marks; op = op; before = before }
+
+-- where it stands
+pub record Opening (k : Walk) (place : Option ℕ) (flags : List Bool) : Type 0 where
+  pub reader : IsReaderOf k.wires k.op place
+  pub all : length flags ≡ length k.wires
+  pub opens : (budget workers w : ℕ) (h : List Event)
+      → Legal (run_of k.wires budget workers (Publish w k.op ∷ h)) (Publish w k.op ∷ h)
+      → MarksOf k.wires (Publish w k.op ∷ h) k.marks → FlagsOf k.wires h k.before
+      → OpensFrom (published k.wires h w k.op) (bound_of place) flags

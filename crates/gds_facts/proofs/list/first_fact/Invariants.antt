@@ -3,8 +3,8 @@ use Rattle.gds_records.specs.Stream.{item_of}
 use Rattle.gds_facts.specs.Facts.{HasTaken}
 use Rattle.gds_facts.proofs.list.first_fact.Given as goal
 
-abbrev pub invariant-loop-record : goal.invariant-loop-record
-invariant-loop-record l = record {
-  taken : HasTaken (map item_of (take l.record-index l.records)) l.checker;
+abbrev pub invariant-loop-item : goal.invariant-loop-item
+invariant-loop-item l = record {
+  taken : HasTaken (map item_of (take l.item-index l.records)) l.checker;
   same : l.checker.precision ≡ l.precision;
 }

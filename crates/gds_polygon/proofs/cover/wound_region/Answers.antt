@@ -2,7 +2,7 @@ use Rattle.std.proofs.Common.{◌<◌, ◌^◌, true, false, eqb, not, length, s
 use Rattle.region_sweep.specs.Counts.{AreWide, Rise, times, times_up_to}
 use Rattle.gds_polygon.specs.Working.Windings.{turns}
 use Rattle.gds_polygon.specs.Working.Steps.{steps_of}
-use Rattle.gds_polygon.proofs.Reordered.{times_moved, up_to_moved, wide_moved}
+use Rattle.region_sweep.proofs.Reordered.{times_moved, up_to_moved, wide_moved}
 use Rattle.gds_polygon.proofs.StepFacts.{steps_wide, steps_few, up_to_few}
 use Rattle.gds_polygon.proofs.Around.{columns_close, inside_wound, none_turned, wound}
 use Rattle.gds_polygon.proofs.cover.wound_region.Goals as goal

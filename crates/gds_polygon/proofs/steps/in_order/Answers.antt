@@ -1,6 +1,6 @@
 use Rattle.std.proofs.Common.{rules}
 use Rattle.std.proofs.lemmas.Fn.{always_returns_same}
-use Rattle.gds_polygon.proofs.Reordered.{rise_from_sort}
+use Rattle.region_sweep.proofs.Reordered.{rise_from_sort}
 use Rattle.gds_polygon.proofs.steps.in_order.Goals as goal
 
 pub returns-clause-rise : goal.returns-clause-rise

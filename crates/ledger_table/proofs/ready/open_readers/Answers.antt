@@ -1,6 +1,6 @@
 use Rattle.std.proofs.Common.{◌*◌, ◌<◌, length, subst, arith}
 use Rattle.ledger_table.specs.Working.Places.{IsReaderOf}
-use Rattle.ledger_table.specs.Working.Openings.{Opening}
+use Rattle.ledger_table.specs.Working.Openings.{Opening, walk}
 use Rattle.ledger_table.proofs.Opening.{opening_starts, opening_goes_on, opens_all}
 use Rattle.ledger_table.proofs.ready.open_readers.Goals as goal
 
@@ -16,11 +16,11 @@ loop-place-init c = opening_starts _ _ _ _ _ c.last_reader-place.ensures c.requi
 
 pub loop-place-preserved : goal.loop-place-preserved
 loop-place-preserved c =
-    let at = subst (λ o. Opening c.args.places.now c.args.marks.now c.args.op c.args.ready.now o c.loop-place.ready) c.in-Some.is c.loop-place.invariant in
+    let at = subst (λ o. Opening (walk c.args.places.now c.args.marks.now c.args.op c.args.ready.now) o c.loop-place.ready) c.in-Some.is c.loop-place.invariant in
     let flags = rw c.wires-wires.ensures.same at c.open_reader.ensures.flags in
     opening_goes_on _ _ _ _ _ _ _ _ at flags c.open_reader.ensures.all c.earlier_reader-place.ensures
 
 pub returns : goal.returns
 returns c = λ budget workers w h l m f.
-    let at = subst (λ o. Opening c.args.places.now c.args.marks.now c.args.op c.args.ready.now o c.loop-place.ready) c.in_default.is c.loop-place.invariant in
+    let at = subst (λ o. Opening (walk c.args.places.now c.args.marks.now c.args.op c.args.ready.now) o c.loop-place.ready) c.in_default.is c.loop-place.invariant in
     opens_all _ h w _ _ (at.opens budget workers w h l m f)

@@ -1,7 +1,8 @@
 use Rattle.std.proofs.Common.{◌≡◌, eqb, not, sym, subst, ap, ◌∙◌}
 use Rattle.region_sweep.specs.Counts.{AreWide, Rise, times, times_up_to}
 use Rattle.region_merge.specs.Working.Overlaps.{open_count}
-use Rattle.region_merge.proofs.Overlapping.{all_end, inside_covered, lower_wide, none_open, times_moved, up_to_moved, upper_wide, wide_moved}
+use Rattle.region_sweep.proofs.Reordered.{times_moved, up_to_moved, wide_moved}
+use Rattle.region_merge.proofs.Overlapping.{all_end, inside_covered, lower_wide, none_open, upper_wide}
 use Rattle.region_merge.proofs.cover.merge.Goals as goal
 
 pub sweep-requires-clause-first_rises : goal.sweep-requires-clause-first_rises

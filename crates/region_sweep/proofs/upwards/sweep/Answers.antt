@@ -7,7 +7,7 @@ use Rattle.region_form.specs.declared.flip.Flip.{Flip}
 use Rattle.region_form.specs.Flips.{IsRegion, squares}
 use Rattle.region_sweep.specs.Counts.{AreWide}
 use Rattle.region_sweep.specs.Working.Lines.{lower_line}
-use Rattle.region_sweep.specs.Working.Sweeps.{IsSwept}
+use Rattle.region_sweep.specs.Working.Sweeps.{IsSwept, reached, sweep}
 use Rattle.region_sweep.proofs.Swept.{begun, end_region, end_squares, fewer, first_cut, passed, second_cut}
 use Rattle.region_sweep.proofs.upwards.sweep.Goals as goal
 
@@ -15,9 +15,10 @@ pub loop-line-init : goal.loop-line-init
 loop-line-init g c =
     let E = g.E.Evaluator in
     let evaluator = c.args.evaluator.now in
+    let by = sweep (E.inside evaluator) (E.counted evaluator) g.V.Value.zero c.args.first.now c.args.second.now in
     let start = begun (E.inside evaluator) (E.counted evaluator) g.V.Value.zero c.args.first.now c.args.second.now (sym (g.met.E.Evaluator.counts_none evaluator)) (g.met.E.Evaluator.none_inside evaluator) in (
-      subst (λ row. IsSwept (E.inside evaluator) (E.counted evaluator) g.V.Value.zero c.args.first.now c.args.second.now row c.new-sweeping.result.flips.items c.args.first.now c.args.second.now) (sym c.new-sweeping.ensures.row)
-          (subst (λ out. IsSwept (E.inside evaluator) (E.counted evaluator) g.V.Value.zero c.args.first.now c.args.second.now [] out c.args.first.now c.args.second.now) (sym c.new-sweeping.ensures.flips) start),
+      subst (λ row. IsSwept by (reached row c.new-sweeping.result.flips.items c.args.first.now c.args.second.now)) (sym c.new-sweeping.ensures.row)
+          (subst (λ out. IsSwept by (reached [] out c.args.first.now c.args.second.now)) (sym c.new-sweeping.ensures.flips) start),
       c.requires.first_wide,
       c.requires.second_wide,
       c.new-sweeping.ensures.pending,

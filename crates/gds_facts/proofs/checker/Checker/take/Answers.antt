@@ -12,7 +12,7 @@ use Rattle.gds_facts.proofs.checker.Checker.take.Goals as goal
 pub returns-then-not-has_good_data-clause-refused : goal.returns-then-not-has_good_data-clause-refused
 returns-then-not-has_good_data-clause-refused c =
     let is = c.refusal-then-not-has_good_data.ensures in
-    let item = item_of c.args.record.now in
+    let item = item_of c.args.item.now in
     let checker = c.args.self.now in
     let none : HasGoodData checker.line item → ⊥ = denied c.has_good_data.result c.if-not-has_good_data.true c.has_good_data.ensures in (
       ap (λ r. r.at) is,
@@ -23,14 +23,14 @@ returns-then-not-has_good_data-clause-refused c =
 
 pub agrees-requires : goal.agrees-requires
 agrees-requires c = λ is.
-    let g : HasGoodData c.args.self.now.line (item_of c.args.record.now) = granted c.has_good_data.result c.if-not-has_good_data.false c.has_good_data.ensures in
-    let l : length c.args.record.now.body.items ≡ 16 = (g types.Units is).1 in
+    let g : HasGoodData c.args.self.now.line (item_of c.args.item.now) = granted c.has_good_data.result c.if-not-has_good_data.false c.has_good_data.ensures in
+    let l : length c.args.item.now.body.items ≡ 16 = (g types.Units is).1 in
     omega (arith, l)
 
 pub returns-then-not-agrees-clause-refused : goal.returns-then-not-agrees-clause-refused
 returns-then-not-agrees-clause-refused c =
     let is = c.refusal-then-not-agrees.ensures in
-    let item = item_of c.args.record.now in
+    let item = item_of c.args.item.now in
     let checker = c.args.self.now in
     let g : HasGoodData checker.line item = granted c.has_good_data.result c.if-not-has_good_data.false c.has_good_data.ensures in
     let none : Agrees checker.precision item → ⊥ = denied c.agrees.result c.if-not-agrees.true c.agrees.ensures in (
@@ -42,7 +42,7 @@ returns-then-not-agrees-clause-refused c =
 
 pub returns-clause-taken : goal.returns-clause-taken
 returns-clause-taken c = λ items taken.
-    let item = item_of c.args.record.now in
+    let item = item_of c.args.item.now in
     let checker = c.args.self.now in
     let g : HasGoodData checker.line item = granted c.has_good_data.result c.if-not-has_good_data.false c.has_good_data.ensures in
     let agrees : Agrees checker.precision item = granted c.agrees.result c.if-not-agrees.false c.agrees.ensures in

@@ -5,7 +5,7 @@ use crate::LayerType;
 
 /// What an input of an operation may be. A polygon layer that stands where edges are wanted means its boundary.
 #[derive(Clone, Copy, Debug, PartialEq, Eq)]
-pub enum Slot {
+pub enum InputType {
     /// There is no such input.
     Nothing,
     Polygons,
@@ -15,7 +15,7 @@ pub enum Slot {
     MaybeShapes,
 }
 
-impl Slot {
+impl InputType {
     /// Whether a layer of the type may stand here, or none.
     pub fn takes(self, input: Option<LayerType>) -> bool
         ensures { result ≡ takes self input }
@@ -30,8 +30,8 @@ impl Slot {
         ensures { result ≡ takes self None }
     {
         match self {
-            Slot::Nothing | Slot::MaybeShapes => true,
-            Slot::Polygons | Slot::Shapes => false,
+            InputType::Nothing | InputType::MaybeShapes => true,
+            InputType::Polygons | InputType::Shapes => false,
         }
     }
 
@@ -39,15 +39,15 @@ impl Slot {
         ensures { result ≡ takes self (Some layer) }
     {
         match self {
-            Slot::Nothing => false,
-            Slot::Polygons => is_polygon(layer),
-            Slot::Shapes | Slot::MaybeShapes => is_shape(layer),
+            InputType::Nothing => false,
+            InputType::Polygons => is_polygon(layer),
+            InputType::Shapes | InputType::MaybeShapes => is_shape(layer),
         }
     }
 }
 
 fn is_polygon(layer: LayerType) -> bool
-    ensures { result ≡ takes Slot.Polygons (Some layer) }
+    ensures { result ≡ takes InputType.Polygons (Some layer) }
 {
     match layer {
         LayerType::Polygon => true,
@@ -56,7 +56,7 @@ fn is_polygon(layer: LayerType) -> bool
 }
 
 fn is_shape(layer: LayerType) -> bool
-    ensures { result ≡ takes Slot.Shapes (Some layer) }
+    ensures { result ≡ takes InputType.Shapes (Some layer) }
 {
     match layer {
         LayerType::Polygon | LayerType::Edge => true,

@@ -1,9 +1,9 @@
-use crate::{LayerType, Slot};
+use crate::{InputType, LayerType};
 
 /// What an operation takes and gives.
 #[derive(Clone, Copy, Debug, PartialEq, Eq)]
-pub struct Row {
-    pub first: Slot,
-    pub second: Slot,
+pub struct Signature {
+    pub first: InputType,
+    pub second: InputType,
     pub gives: LayerType,
 }
