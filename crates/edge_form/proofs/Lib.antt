@@ -3,3 +3,4 @@ mod Pushing
 mod PieceOrder
 mod Joining
 mod Spaced
+mod Deduped

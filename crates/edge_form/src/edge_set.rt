@@ -4,10 +4,10 @@ ghost use Rattle.std.specs.Prelude.{◌≡◌, [], ◌∷◌, ◌++◌, ℤ, IfO
 ghost use Rattle.std.specs.List.{AllByRecursion};
 ghost use Rattle.drc_geom.specs.declared.unit.Side.{Side};
 ghost use Rattle.std.specs.declared.cmp.Ordering.TheVariants.{Less};
-ghost use Rattle.drc_geom.specs.Runs.{IsRun, run_order, units_of};
+ghost use Rattle.drc_geom.specs.Runs.{IsMaximalRun, IsRun, run_order, units_of};
 ghost use Rattle.edge_form.specs.Edges.{IsClearOf, IsEdgeSet};
 
-use crate::gathering::{join, sort_by_place, sort_by_run_order};
+use crate::gathering::{join, sort_by_place, sort_by_run_order, sort_whole};
 use crate::lookup::finds;
 use drc_geom::{Run, Unit};
 use std::alloc::{AllocError, Global};
@@ -50,6 +50,16 @@ impl EdgeSet {
         join(&mut pieces);
         sort_by_run_order(&mut pieces);
         EdgeSet { runs: pieces }
+    }
+
+    /// The units of runs that are maximal together. They may stand in any order, and repeat. Where they stand in run order,
+    /// or in the reverse of it, this takes one pass.
+    pub fn of_whole(mut runs: Vec<Run>) -> EdgeSet
+        requires { AllByRecursion (IsMaximalRun (units_of runs.items)) runs.items }
+        ensures { (x y : ℤ) → (side : Side) → units_of result x y side ≡ units_of runs.items x y side }
+    {
+        sort_whole(&mut runs);
+        EdgeSet { runs }
     }
 
     /// Adds a run that stands behind all others in run order, and neither meets nor touches one with its side on its

@@ -3,7 +3,7 @@
 ghost use Rattle.std.specs.Prelude.{◌≡◌, ◌&&◌, ◌==◌, if◌then◌else◌};
 ghost use Rattle.std.specs.Ordering.{int_eq};
 ghost use Rattle.drc_geom.specs.Units.{AreSameUnits};
-ghost use Rattle.drc_geom.specs.Runs.{IsRun, side_rank, units_of};
+ghost use Rattle.drc_geom.specs.Runs.{IsMaximalRun, IsRun, side_rank, units_of};
 ghost use Rattle.std.specs.List.{AllByRecursion};
 ghost use Rattle.std.specs.List.Sorted.{IsSorted};
 ghost use Rattle.edge_form.specs.Edges.{IsEdgeSet};
@@ -51,6 +51,17 @@ pub fn sort_by_run_order(runs: &mut Vec<Run>)
     ensures units { AreSameUnits (units_of runs.new.items) (units_of runs.old.items) }
 {
     runs.sort_unstable();
+}
+
+/// Sorts maximal runs by run order, and leaves each once. Where they are in that order, or in the reverse one, this takes
+/// one pass.
+pub fn sort_whole(runs: &mut Vec<Run>)
+    requires { AllByRecursion (IsMaximalRun (units_of runs.old.items)) runs.old.items }
+    ensures form { IsEdgeSet runs.new.items }
+    ensures units { AreSameUnits (units_of runs.new.items) (units_of runs.old.items) }
+{
+    runs.sort_unstable();
+    runs.dedup();
 }
 
 // Where the piece meets the run, takes it in.

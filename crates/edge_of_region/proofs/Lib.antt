@@ -1,2 +1,5 @@
-mod Drawing
-mod Together
+mod NearLine
+mod SideUnits
+mod Walks
+mod Passing
+mod Sweeping

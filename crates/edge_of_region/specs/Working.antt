@@ -1,3 +1,4 @@
 -- Working words: of the loops and of the steps of this crate alone. No clause of a public function reaches them.
+pub mod Walks
 pub mod Flips
-pub mod Pieces
+pub mod Orders

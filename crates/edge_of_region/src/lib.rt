@@ -8,15 +8,23 @@
 //!          S
 //! ```
 //!
-//! A sweep goes up over the flips of the region, on which the S and N sides lie: it tells the columns of a flip in which
-//! squares begin and those in which they end. W and E sides are the same with x and y in each other's place, so the same
-//! sweep goes over the flips of the region turned over.
+//! A sweep goes down over the flips of the region. Its state are the upright sides that stand in the rows above the line.
+//!
+//! ```text
+//!    row above      |####|....|####|      a flip from the first upright side to beyond the last one: each side in it ends
+//!    flip           +---------------+     on the line, and begins anew on the other side if it stands between the ends.
+//!    row below      .....|####|....|#     Over the flip lie S sides under squares, and N sides over squares
+//! ```
+//!
+//! An upright run is whole where its lower end is reached, which is its place in run order, and within a line the sweep
+//! goes from right to left. So all runs come in falling order, and to put them in order takes one pass.
 #![tactic(auto)]
 
 mod boundary_of;
-mod sides;
+mod downwards;
 #[cfg(test)]
 mod tests;
-mod turn;
+mod upright;
+mod walk;
 
 pub use boundary_of::boundary;

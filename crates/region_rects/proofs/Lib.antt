@@ -1,1 +1,5 @@
+mod Joins
+mod Canonical
+mod Permuted
+mod Listed
 mod Sweeping

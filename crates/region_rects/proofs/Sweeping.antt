@@ -1,7 +1,6 @@
 -- A sweep to the right: the rectangles that have ended and the stretches that have begun have the squares so far.
-use Rattle.std.proofs.Common.{◌≡◌, inl, inr, Bool, true, false, not, ◌&&◌, ◌||◌, cond, ℕ, ◌+◌, ◌<◌, length, take, get_or, append_assoc, ℤ, ◌<ℤ◌, ◌≤ℤ◌, int_le, int_lt, List, [], ◌∷◌, ◌++◌, refl, sym, subst, ap, ◌∙◌, arith}
+use Rattle.std.proofs.Common.{◌≡◌, inl, inr, Bool, true, false, not, ◌&&◌, ◌||◌, cond, ℤ, ◌<ℤ◌, ◌≤ℤ◌, int_le, int_lt, List, [], ◌∷◌, ◌++◌, refl, sym, subst, ap, ◌∙◌, arith}
 use Rattle.std.proofs.lemmas.Int.{ints, by_lt_z}
-use Rattle.std.proofs.lemmas.List.{take_more}
 use mathlib.Core.Bool.{true≢false}
 use Rattle.std.specs.List.{AllByRecursion}
 use Rattle.list_facts.specs.Between.{between}
@@ -18,7 +17,7 @@ use Rattle.row_state.specs.Pieces.{Tile}
 use Rattle.region_form.specs.declared.flip.Flip.{Flip}
 use Rattle.region_form.specs.Flips.{changes, squares}
 use Rattle.region_form.proofs.Parity.{squares_append}
-use Rattle.region_turn.specs.Apart.{LiesBehind}
+use Rattle.region_rects.specs.Working.Orders.{LiesBehind}
 use Rattle.region_rects.specs.declared.stretch.Stretch.{Stretch}
 use Rattle.region_rects.specs.declared.stretch.Stretch.TheVariants.{None, From}
 use Rattle.region_rects.specs.Disjoint.{AreDisjoint}
@@ -26,21 +25,9 @@ use Rattle.region_rects.specs.Working.Stretches.{BeganUpTo, ended, ended_one, ha
 
 -- ---- the rectangles of pieces
 
-covered_append : (a b : List Rect) (x y : ℤ) → covered (a ++ b) x y ≡ (covered a x y || covered b x y)
+pub covered_append : (a b : List Rect) (x y : ℤ) → covered (a ++ b) x y ≡ (covered a x y || covered b x y)
 covered_append [] b x y = refl
 covered_append (r ∷ a) b x y = ap (λ v. squares_of r x y || v) (covered_append a b x y) ∙ or_assoc (squares_of r x y) (covered a x y) (covered b x y)
-
-ended_append : (line : ℤ) (ps qs : List (Piece Stretch)) → ended line (ps ++ qs) ≡ ended line ps ++ ended line qs
-ended_append line [] qs = refl
-ended_append line (p ∷ ps) qs = ap (λ rs. ended_one line p.x0 p.x1 p.old ++ rs) (ended_append line ps qs) ∙ sym (append_assoc (ended_one line p.x0 p.x1 p.old) (ended line ps) (ended line qs))
-
--- the rectangles of one piece more
-pub ended_more : (line : ℤ) (ps : List (Piece Stretch)) (i : ℕ) (d : Piece Stretch) (first old new : List Rect) → i < length ps → old ≡ first ++ ended line (take i ps) → new ≡ old ++ ended line (get_or ps i d ∷ []) → new ≡ first ++ ended line (take (i + 1) ps)
-ended_more line ps i d first old new l e f =
-    let one = ended line (get_or ps i d ∷ []) in
-    f ∙ (ap (λ rs. rs ++ one) e
-    ∙ (append_assoc first (ended line (take i ps)) one
-    ∙ ap (λ rs. first ++ rs) (sym (ended_append line (take i ps) (get_or ps i d ∷ [])) ∙ ap (ended line) (sym (take_more ps i d l)))))
 
 one_has : (line y0 y1 : ℤ) (v : Stretch) (x y : ℤ) → covered (ended_one line y0 y1 v) x y ≡ ((has_begun v x && int_lt x line) && between y0 y1 y)
 one_has line y0 y1 None x y = refl
@@ -52,7 +39,7 @@ one_has line y0 y1 (From a) x y =
     ap (λ b. covered (cond b (r ∷ []) []) x y) (lt_false a line l)
     ∙ sym (ap (λ b. b && between y0 y1 y) (by_lt_z x a (λ m. between_before a line x m) (λ m. between_past a line x (omega (arith, ints))))))
 
-ends_within : (values : ℤ → Stretch) (x0 x1 : ℤ) (ps : List (Piece Stretch)) → Tile values x0 x1 ps → x0 ≤ℤ x1
+pub ends_within : (values : ℤ → Stretch) (x0 x1 : ℤ) (ps : List (Piece Stretch)) → Tile values x0 x1 ps → x0 ≤ℤ x1
 ends_within values x0 x1 [] t = let e : x0 ≡ x1 = t in omega (arith, ints)
 ends_within values x0 x1 (p ∷ ps) t = let w : x0 <ℤ p.x1 = t.1 in let k = ends_within values p.x1 x1 ps t.3 in omega (arith, ints)
 
@@ -167,7 +154,7 @@ swept_start = record { has = λ x y. refl; end_up_to = λ line a. tt; began_up_t
 no_higher : (f g : Flip) → LiesBehind g f → g.y ≤ℤ f.y
 no_higher f g b = elim b [ inl l ↦ omega (arith, ints) | inr e ↦ let q : g.y ≡ f.y = e.0 in omega (arith, ints) ]
 
-none_past_end : (rs : List Rect) (line x y : ℤ) → EndUpTo line rs → line ≤ℤ x → covered rs x y ≡ false
+pub none_past_end : (rs : List Rect) (line x y : ℤ) → EndUpTo line rs → line ≤ℤ x → covered rs x y ≡ false
 none_past_end [] line x y a h = refl
 none_past_end (r ∷ rs) line x y a h =
     let k : r.x1 ≤ℤ line = a.0 in

@@ -1,2 +1,4 @@
 -- Working words: of the loops and of the steps of this crate alone. No clause of a public function reaches them.
 pub mod Stretches
+pub mod Joins
+pub mod Orders

@@ -1,4 +1,4 @@
-//! The rectangles of a region: they don't overlap, and cover its squares.
+//! The canonical rectangles of a region: maximal stacks of equal stretches. They don't overlap, and cover its squares.
 //!
 //! ```text
 //!    y=3     +-----+
@@ -10,7 +10,8 @@
 //! ```
 //!
 //! In each row of squares a *stretch* is a maximal row of adjacent squares of the region. A sweep goes over the region
-//! turned over, line of x by line of x: where rows end that began on one line, a rectangle ends.
+//! turned over, line of x by line of x: where rows end that began on one line, a rectangle ends. At last the rectangles are
+//! put in order, the lowest first and of those the one on the left.
 #![tactic(auto)]
 
 mod ended;

@@ -17,7 +17,6 @@ use Rattle.list_facts.proofs.Tests.{clash, between_before, between_past, between
 use Rattle.region_form.specs.declared.flip.Flip.{Flip}
 use Rattle.region_form.specs.Flips.{AreSorted, changes, is_odd, squares}
 use Rattle.region_turn.specs.declared.corner.Corner.{Corner}
-use Rattle.region_turn.specs.Apart.{AreApart, LiesBehind}
 use Rattle.region_turn.specs.Working.Corners.{Ascend, Follows, corners_of, flips_between, odd_corners, odd_up_to}
 
 -- ---- the loop that goes from two corners to the next two
@@ -178,41 +177,6 @@ even_rest p q e = sym (one_twice p q) ∙ e
 pub even_behind : (c d : Corner) (cs : List Corner) → c.line ≡ d.line → ((x : ℤ) → odd_up_to (c ∷ d ∷ cs) x ≡ false) → (x : ℤ) → odd_up_to cs x ≡ false
 even_behind c d cs e even x =
     even_rest (int_le c.line x) (odd_up_to cs x) (ap (λ l. exactly_one (int_le c.line x) (exactly_one (int_le l x) (odd_up_to cs x))) e ∙ even x)
-
--- g lies on a line behind the corner's, or on that line and no lower
-abbrev LiesFrom : Corner → Flip → Type 0
-LiesFrom c g = (c.line <ℤ g.y) ⊎ ((c.line ≡ g.y) × (c.row ≤ℤ g.x0))
-
-all_kept : (P : Flip → Type 0) (b : Bool) (f : Flip) (fs : List Flip) → P f → AllByRecursion P fs → AllByRecursion P (cond b (f ∷ fs) fs)
-all_kept P true f fs p a = (p, a)
-all_kept P false f fs p a = a
-
-all_from : (e : Corner) (cs : List Corner) → AllByRecursion (Follows e) cs → AllByRecursion (LiesFrom e) (flips_between cs)
-all_from e [] a = tt
-all_from e (c ∷ []) a = tt
-all_from e (c ∷ d ∷ cs) a =
-    all_kept (LiesFrom e) (int_lt c.row d.row) (record { y = c.line; x0 = c.row; x1 = d.row }) (flips_between cs) a.0 (all_from e cs a.1.1)
-
-apart_kept : (b : Bool) (f : Flip) (fs : List Flip) → (b ≡ true → f.x0 <ℤ f.x1) → AllByRecursion (LiesBehind f) fs → AreApart fs → AreApart (cond b (f ∷ fs) fs)
-apart_kept true f fs w a r = (w refl, a, r)
-apart_kept false f fs w a r = r
-
-behind_from : (c d : Corner) → c.line ≡ d.line → (g : Flip) → LiesFrom d g → LiesBehind (record { y = c.line; x0 = c.row; x1 = d.row }) g
-behind_from c d e g f =
-    elim f [
-      | inl l ↦ inl (omega (arith, ints))
-      | inr k ↦ inr (e ∙ k.0, k.1)
-    ]
-
-pub between_apart : (cs : List Corner) → Ascend cs → ((x : ℤ) → odd_up_to cs x ≡ false) → AreApart (flips_between cs)
-between_apart [] a even = tt
-between_apart (c ∷ []) a even = tt
-between_apart (c ∷ d ∷ cs) a even =
-    let one = first_line_is c d cs a even in
-    apart_kept (int_lt c.row d.row) (record { y = c.line; x0 = c.row; x1 = d.row }) (flips_between cs)
-    (λ e. lt_from_true c.row d.row e)
-    (all_weaker (LiesFrom d) (LiesBehind (record { y = c.line; x0 = c.row; x1 = d.row })) (behind_from c d one.0) (flips_between cs) (all_from d cs a.1.0))
-    (between_apart cs a.1.1 (even_behind c d cs one.0 even))
 
 squares_kept : (b : Bool) (f : Flip) (fs : List Flip) (x y : ℤ) (p : Bool) → (b ≡ true → (int_le f.y y && changes f x) ≡ p) → (b ≡ false → p ≡ false) → squares (cond b (f ∷ fs) fs) x y ≡ exactly_one p (squares fs x y)
 squares_kept true f fs x y p g h = ap (λ q. exactly_one q (squares fs x y)) (g refl)

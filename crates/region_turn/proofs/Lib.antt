@@ -1,2 +1,2 @@
 mod Corners
-pub mod Apart
+mod Different

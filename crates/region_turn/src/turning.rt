@@ -11,8 +11,7 @@
 
 ghost use Rattle.std.specs.Prelude.{◌≡◌, [], ◌∷◌, ◌++◌, ℤ, IfOk, OnOk};
 ghost use Rattle.std.specs.List.Sorted.{IsPermutation};
-ghost use Rattle.region_form.specs.Flips.{IsRegion, squares};
-ghost use Rattle.region_turn.specs.Apart.{AreApart};
+ghost use Rattle.region_form.specs.Flips.{AreSorted, IsRegion, squares};
 ghost use Rattle.region_turn.specs.Working.Corners.{Ascend, corners_of, flips_between};
 
 use crate::corner::Corner;
@@ -22,7 +21,7 @@ use std::alloc::{AllocError, Global};
 /// The flips whose squares are those of the region with x and y in each other's place, by line and then column.
 /// Only want of memory is an error.
 pub fn turn_over(alloc: Global, region: &Region) -> Result<Vec<Flip>, AllocError>
-    ensures apart { IfOk result (λ flips. AreApart flips.items) }
+    ensures sorted { IfOk result (λ flips. AreSorted flips.items) }
     ensures squares { IfOk result (λ flips. (x y : ℤ) → squares flips.items y x ≡ squares region.now x y) }
 {
     let flips = region.flips();

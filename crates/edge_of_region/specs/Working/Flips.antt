@@ -1,20 +1,21 @@
--- Where the squares of flips begin and end, going up and to the right.
-use Rattle.std.specs.Prelude.{Bool, not, ◌&&◌, ℤ, pos, ◌-ℤ◌, List}
+-- The sides that stand above a flip, among all that stand in the rows above its line: those behind it, those over it from
+-- its right end to its left one, and those before it.
+use Rattle.std.specs.Prelude.{Bool, false, Option, None, Some, int_le, int_lt, List}
+use Rattle.std.specs.List.{before_first}
+use Rattle.chunked_list.specs.Stretches.{from_first}
 use Rattle.region_form.specs.declared.flip.Flip.{Flip}
-use Rattle.region_form.specs.Flips.{squares}
+use Rattle.edge_of_region.specs.declared.upright.Upright.{Upright}
 
--- on the line a square begins in the column
-abbrev pub begins : List Flip → (line column : ℤ) → Bool
-begins fs line column = squares fs column line && not (squares fs column (line -ℤ pos 1))
+abbrev pub front_of : Flip → List Upright → List Upright
+front_of f all = before_first (λ (u : Upright). int_le u.line f.x1) all
 
--- on the line a square ends in the column
-abbrev pub ends : List Flip → (line column : ℤ) → Bool
-ends fs line column = squares fs column (line -ℤ pos 1) && not (squares fs column line)
+abbrev pub over_of : Flip → List Upright → List Upright
+over_of f all = before_first (λ (u : Upright). int_lt u.line f.x0) (from_first (λ (u : Upright). int_le u.line f.x1) all)
 
--- on the line of x a square begins in the row
-abbrev pub begins_right : List Flip → (line row : ℤ) → Bool
-begins_right fs line row = squares fs line row && not (squares fs (line -ℤ pos 1) row)
+abbrev pub back_of : Flip → List Upright → List Upright
+back_of f all = from_first (λ (u : Upright). int_lt u.line f.x0) (from_first (λ (u : Upright). int_le u.line f.x1) all)
 
--- on the line of x a square ends in the row
-abbrev pub ends_right : List Flip → (line row : ℤ) → Bool
-ends_right fs line row = squares fs (line -ℤ pos 1) row && not (squares fs line row)
+-- whether the column before the next side on the right has a square
+abbrev pub right_of : Option Upright → Bool
+right_of None = false
+right_of (Some u) = u.east

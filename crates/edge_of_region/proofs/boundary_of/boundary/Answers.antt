@@ -1,28 +1,20 @@
-use Rattle.std.proofs.Common.{◌∙◌, subst}
-use Rattle.drc_geom.specs.declared.unit.Side.TheVariants.{N, S}
-use Rattle.region_turn.proofs.Apart.{apart_sorted}
-use Rattle.edge_of_region.specs.Working.Flips.{begins, ends}
-use Rattle.edge_of_region.specs.Working.Pieces.{Draws}
-use Rattle.edge_of_region.proofs.Together.{all_sides, none_empty}
+use Rattle.std.proofs.Common.{sym, ap, ◌∙◌}
+use Rattle.list_facts.proofs.Members.{all_weaker}
+use Rattle.drc_geom.specs.Runs.{IsMaximalRun, units_of}
+use Rattle.drc_geom.specs.Units.{boundary}
+use Rattle.drc_geom.proofs.Boundaries.{maximal_same}
+use Rattle.region_form.specs.Flips.{squares}
 use Rattle.edge_of_region.proofs.boundary_of.boundary.Goals as goal
 
-pub draw_sides-requires : goal.draw_sides-requires
-draw_sides-requires c = apart_sorted c.flips.result.now c.flips.ensures.form.sorted
-
-pub gather-requires : goal.gather-requires
-gather-requires c =
-    let level = c.in_ok-level.level in
-    let upright = c.in_ok-upright.upright in
-    let south : Draws S (begins c.args.region.now) level.begun.items = subst (λ fs. Draws S (begins fs) level.begun.items) c.flips.ensures.flips c.in_ok-level.ensures.begun in
-    let north : Draws N (ends c.args.region.now) level.ended.items = subst (λ fs. Draws N (ends fs) level.ended.items) c.flips.ensures.flips c.in_ok-level.ensures.ended in
-    none_empty c.args.region.now level.ended.items level.begun.items upright.ended.items upright.begun.items c.in_ok-pieces.pieces.items north south c.in_ok-upright.ensures.east c.in_ok-upright.ensures.west c.in_ok-pieces.ensures
+pub of_whole-requires : goal.of_whole-requires
+of_whole-requires c =
+    let told = c.in_ok-runs.ensures in
+    let units = boundary (squares c.flips.result.now) in
+    let runs = c.in_ok-runs.runs.items in
+    all_weaker (IsMaximalRun units) (IsMaximalRun (units_of runs)) (λ r m. maximal_same units (units_of runs) r (λ x y side. sym (told.units x y side)) m) runs told.maximal
 
 pub returns : goal.returns
 returns c =
-    let level = c.in_ok-level.level in
-    let upright = c.in_ok-upright.upright in
-    let south : Draws S (begins c.args.region.now) level.begun.items = subst (λ fs. Draws S (begins fs) level.begun.items) c.flips.ensures.flips c.in_ok-level.ensures.begun in
-    let north : Draws N (ends c.args.region.now) level.ended.items = subst (λ fs. Draws N (ends fs) level.ended.items) c.flips.ensures.flips c.in_ok-level.ensures.ended in
     λ x y side.
-    c.gather.ensures x y side
-    ∙ all_sides c.args.region.now level.ended.items level.begun.items upright.ended.items upright.begun.items c.in_ok-pieces.pieces.items north south c.in_ok-upright.ensures.east c.in_ok-upright.ensures.west c.in_ok-pieces.ensures x y side
+    c.of_whole.ensures x y side
+    ∙ (c.in_ok-runs.ensures.units x y side ∙ ap (λ fs. boundary (squares fs) x y side) c.flips.ensures.flips)
