@@ -1,0 +1,9 @@
+pub mod Library
+pub mod Fields
+pub mod Elements
+pub mod Streams
+pub mod Meanings
+pub mod Kept
+pub mod Kinds
+pub mod Drafts
+pub mod Facts
