@@ -1,0 +1,7 @@
+mod StatementRules
+mod ValueRules
+mod LayerRules
+mod CheckRules
+mod InfixRules
+mod DistanceRules
+mod ListSteps
