@@ -2,6 +2,10 @@
 //! where SHAPE is chain, fan or comb. It says how many operations and events the run had. `bench/ledger.py` times it.
 #![tactic(auto)]
 
+#[cfg(test)]
+mod drop_tests;
+#[cfg(test)]
+mod hand;
 mod numbers;
 #[cfg(test)]
 mod pair;

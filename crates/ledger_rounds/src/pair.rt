@@ -1,15 +1,11 @@
 //! A job for tests: two layers that are read by a third, under a budget that holds one and a half.
 
-ghost use Rattle.std.specs.Prelude.{◌≡◌, ◌+◌};
-ghost use Rattle.layer_model.specs.Wirings.{reader_count};
+ghost use Rattle.std.specs.Prelude.{◌≡◌};
 ghost use Rattle.ledger_rounds.specs.Pairs.{pair_wires};
 
 use layer_model::{Wire, Wiring};
-use ledger_core::{
-    ChargeAnswer, Charged, Claim, Copies, Given, Job, Published, Seat, Start, State, Ticket,
-};
+use ledger_core::{Job, Start, State};
 use std::alloc::{AllocError, Global};
-use std::process::Abort;
 use std::sync::Arc;
 
 /// Operations 0 and 1, and operation 2, which reads both and is reported. Each layer is its operation's number.
@@ -71,95 +67,5 @@ pub fn start(alloc: Global) -> Result<Option<Start<Pair>>, AllocError> {
     match Wiring::checked(alloc, wires)? {
         Some(wiring) => Ok(Some(State::new(alloc, job, &wiring, 6, 2)?)),
         None => Ok(None),
-    }
-}
-
-/// A charged operation, with the copies of its layer.
-pub struct Made {
-    charged: Charged<Pair>,
-    copies: Copies<Pair>,
-    ghost fits: { copies ≡ record { op = charged.op; count = reader_count pair_wires charged.op + 1 } },
-}
-
-/// What a worker has in its hands.
-pub enum Hand {
-    Idle(Seat),
-    Claimed(Ticket<Pair>),
-    Charged(Made),
-    Published(Published<Pair>),
-}
-
-/// The worker's next call.
-pub fn next_call(rt: &impl Abort, alloc: Global, state: &mut State<Pair>, hand: Hand) -> Hand {
-    match hand {
-        Hand::Idle(seat) => claim(rt, state, seat),
-        Hand::Claimed(ticket) => charge(rt, alloc, state, ticket),
-        Hand::Charged(made) => publish(rt, state, made),
-        Hand::Published(published) => release(rt, state, published),
-    }
-}
-
-fn claim(rt: &impl Abort, state: &mut State<Pair>, seat: Seat) -> Hand {
-    assert!(rt; state.agrees_seat(&seat));
-    match state.claim(seat) {
-        Claim::Work(ticket) => Hand::Claimed(ticket),
-        Claim::NotYet(seat) => Hand::Idle(seat),
-        Claim::Done(seat) => Hand::Idle(seat),
-        Claim::Stopped(seat) => Hand::Idle(seat),
-    }
-}
-
-fn charge(rt: &impl Abort, alloc: Global, state: &mut State<Pair>, ticket: Ticket<Pair>) -> Hand {
-    assert!(rt; state.agrees_ticket(&ticket));
-    match ticket.copies(alloc, ticket.op()) {
-        Ok(copies) => match state.charge(ticket, 4) {
-            ChargeAnswer::Charged(charged) => Hand::Charged(Made { charged, copies }),
-            ChargeAnswer::NotYet(ticket) => Hand::Claimed(ticket),
-            ChargeAnswer::Stopped(seat) => Hand::Idle(seat),
-        },
-        Err(_) => rt.abort(),
-    }
-}
-
-fn publish(rt: &impl Abort, state: &mut State<Pair>, made: Made) -> Hand {
-    let Made { charged, copies } = made;
-    assert!(rt; state.agrees_charged(&charged));
-    given_hand(state.publish(charged, copies))
-}
-
-fn release(rt: &impl Abort, state: &mut State<Pair>, published: Published<Pair>) -> Hand {
-    assert!(rt; state.agrees_published(&published));
-    given_hand(state.release(published))
-}
-
-fn given_hand(given: Given<Pair>) -> Hand {
-    match given {
-        Given::More(published) => Hand::Published(published),
-        Given::Idle(seat) => Hand::Idle(seat),
-    }
-}
-
-/// The seat of a worker that is idle.
-pub fn idle_seat(rt: &impl Abort, hand: Hand) -> Seat {
-    match hand {
-        Hand::Idle(seat) => seat,
-        Hand::Claimed(_ticket) => rt.abort(),
-        Hand::Charged(_made) => rt.abort(),
-        Hand::Published(_published) => rt.abort(),
-    }
-}
-
-/// The worker's next call, which has to be one that leaves the operation claimed.
-pub fn claimed(
-    rt: &impl Abort,
-    alloc: Global,
-    state: &mut State<Pair>,
-    hand: Hand,
-) -> Ticket<Pair> {
-    match next_call(rt, alloc, state, hand) {
-        Hand::Claimed(ticket) => ticket,
-        Hand::Idle(_seat) => rt.abort(),
-        Hand::Charged(_made) => rt.abort(),
-        Hand::Published(_published) => rt.abort(),
     }
 }

@@ -1,6 +1,7 @@
 //! Two workers by State's own calls, and runs whose traces are printed and replayed.
 
-use crate::pair::{Hand, Pair, claimed, idle_seat, next_call, start};
+use crate::hand::{Hand, claimed, idle_seat, next_call};
+use crate::pair::{Pair, start};
 use crate::run::run_rounds;
 use crate::shapes::{chain, comb, fan};
 use layer_model::Wiring;

@@ -1,6 +1,7 @@
 //! Two workers make their first nine calls in each order, and the laws of histories are tried after each call.
 
-use crate::pair::{Hand, Pair, WIRES, idle_seat, next_call, start};
+use crate::hand::{Hand, idle_seat, next_call};
+use crate::pair::{Pair, WIRES, start};
 use ledger_core::{Start, State};
 use ledger_history::plain::{
     held, input, is_claimed, is_live, is_published, is_released, is_reported, total,
