@@ -97,16 +97,16 @@ behind_more before stacks next k at bytes are b = record {
       (l.to, are.all_there c.0 l.to c.1 l.leads, l.fits);
 }
 
+pub are_derived : (k : Kind) (stacks : List (List Part)) → AreNext k stacks (derive_all k stacks)
+are_derived k stacks = record {
+  no_others = λ to m.
+      let w = from_flat_map (λ those. derive (4 * length those) k those) stacks m in
+      (w.0, w.1, no_other (4 * length w.0) k w.0 to w.2);
+  all_there = λ from to m leads. in_flat_map (λ those. derive (4 * length those) k those) stacks m (there (4 * length from) (light from) leads);
+}
+
 pub some_next : (k : Kind) (stacks : List (List Part)) → (next : List (List Part)) × AreNext k stacks next
-some_next k stacks = (
-  derive_all k stacks,
-  record {
-    no_others = λ to m.
-        let w = from_flat_map (λ those. derive (4 * length those) k those) stacks m in
-        (w.0, w.1, no_other (4 * length w.0) k w.0 to w.2);
-    all_there = λ from to m leads. in_flat_map (λ those. derive (4 * length those) k those) stacks m (there (4 * length from) (light from) leads);
-  },
-)
+some_next k stacks = (derive_all k stacks, are_derived k stacks)
 
 -- ---- What the stacks say
 

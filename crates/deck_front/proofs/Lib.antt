@@ -2,5 +2,5 @@ mod Members
 mod Listing
 mod Derived
 mod Fitting
-mod Emptying
-mod Following
+pub mod Emptying
+pub mod Following
