@@ -1,0 +1,10 @@
+mod Tokens
+mod Latest
+mod Ended
+mod Choices
+mod Going
+mod Reading
+mod OneRefusal
+mod Statements
+mod Upcoming
+mod Rounds
