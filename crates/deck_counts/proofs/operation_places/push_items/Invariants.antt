@@ -1,0 +1,10 @@
+-- The places that were pushed, and those that are left, make the whole.
+use Rattle.std.proofs.Common.{◌≡◌, ◌++◌, drop}
+use Rattle.std.specs.List.{flat_map}
+use Rattle.deck_counts.specs.Operations.{item_operations}
+use Rattle.deck_counts.proofs.operation_places.push_items.Given as goal
+
+abbrev pub invariant-loop-item : goal.invariant-loop-item
+invariant-loop-item l =
+    l.places.items ++ flat_map item_operations (drop l.item-index l.items)
+    ≡ l.initial.places.items ++ flat_map item_operations l.items

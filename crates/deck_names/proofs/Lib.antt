@@ -1,0 +1,4 @@
+mod Defining
+mod Entered
+mod Firsts
+mod Repetitions
