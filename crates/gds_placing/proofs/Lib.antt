@@ -1,0 +1,10 @@
+mod Turning
+mod Linear
+mod Following
+mod OneTurn
+mod Between
+mod Wholes
+mod Corners
+mod Signed
+mod FirstFacts
+mod FactOrder
