@@ -15,6 +15,8 @@
 mod grow;
 mod shrink;
 mod sized;
+#[cfg(test)]
+mod tests;
 mod widen;
 
 pub use sized::size;
