@@ -1,7 +1,6 @@
 -- Repetitions: what the tables say of them.
 use Rattle.std.proofs.Common.{◌≡◌, ◌↔◌, ◌⊎◌, ℕ, zero, suc, ◌+◌, Bool, true, false, cond, ◌&&◌, ◌||◌, List, [], ◌∷◌, Option, Some, is_some, slice_get, refl, sym, ap, ◌∙◌, inl, inr}
-use Rattle.std.proofs.lemmas.Bool.{and_parts, or_cases, eqb-true, eq-eqb}
-use Rattle.std.proofs.Math.Bool.{or-true}
+use Rattle.std.proofs.lemmas.Bool.{and_from, and_parts, or_cases, or_left, or_right, eqb-true, eq-eqb}
 use Rattle.std.proofs.lemmas.Option.{none-some, same_Some}
 use Rattle.std.specs.Prelude.{nat_eq}
 use Rattle.std.specs.Borrow.{Bor}
@@ -36,15 +35,6 @@ module _ {X : Type 0} (p : X → Bool) where
 itself : (k : ℕ) → nat_eq k k ≡ true
 itself k = eq-eqb k k refl
 
-or_left : (a b : Bool) → a ≡ true → (a || b) ≡ true
-or_left a b e = ap (λ c. c || b) e
-
-or_right : (a b : Bool) → b ≡ true → (a || b) ≡ true
-or_right a b e = ap (λ c. a || c) e ∙ or-true a
-
-and_both : (a b : Bool) → a ≡ true → b ≡ true → (a && b) ≡ true
-and_both a b e f = ap (λ c. c && b) e ∙ f
-
 module _ (definitions : List Definition) (name : Bor (List ℕ)) where
   abbrev first_that : (Scope → Bool) → Option ℕ
   first_that counts = position_from (λ d. counts d.scope && has_name name.now d) 0 definitions
@@ -78,9 +68,9 @@ module _ (definitions : List Definition) (name : Bor (List ℕ)) where
     where
       by_scope : (s : Scope) → r.1.scope ≡ s → (is_some (first_that is_outside) || is_some (first_that is_inside)) ≡ true
       by_scope scope.Everywhere e =
-          or_left _ _ (there_some (λ d. is_outside d.scope && has_name name.now d) 0 definitions r.0 r.1 r.2 (and_both _ _ (ap is_outside e) r.3.same))
+          or_left _ _ (there_some (λ d. is_outside d.scope && has_name name.now d) 0 definitions r.0 r.1 r.2 (and_from _ _ (ap is_outside e) r.3.same))
       by_scope (scope.Check k) e =
-          or_right _ _ (there_some (λ d. is_inside d.scope && has_name name.now d) 0 definitions r.0 r.1 r.2 (and_both _ _ (ap is_inside e) r.3.same))
+          or_right _ _ (there_some (λ d. is_inside d.scope && has_name name.now d) 0 definitions r.0 r.1 r.2 (and_from _ _ (ap is_inside e) r.3.same))
 
   pub outside_tells : (b : Bool) → b ≡ (is_some (first_that is_outside) || is_some (first_that is_inside)) → (b ≡ true) ↔ IsRepetition definitions (definition name scope.Everywhere)
   outside_tells b e = (λ t. repeats_outside (sym e ∙ t), λ r. e ∙ outside_repeats r)
@@ -114,9 +104,9 @@ module _ (definitions : List Definition) (name : Bor (List ℕ)) where
   inside_repeats k r =
       elim (seen_with k r.1.scope r.3.from r.3.first_seen r.3.second_seen) [
         | inl t ↦
-            or_left _ _ (there_some (λ d. is_outside d.scope && has_name name.now d) 0 definitions r.0 r.1 r.2 (and_both _ _ t r.3.same))
+            or_left _ _ (there_some (λ d. is_outside d.scope && has_name name.now d) 0 definitions r.0 r.1 r.2 (and_from _ _ t r.3.same))
         | inr t ↦
-            or_right _ _ (there_some (λ d. is_in k d.scope && has_name name.now d) 0 definitions r.0 r.1 r.2 (and_both _ _ t r.3.same))
+            or_right _ _ (there_some (λ d. is_in k d.scope && has_name name.now d) 0 definitions r.0 r.1 r.2 (and_from _ _ t r.3.same))
       ]
 
   pub inside_tells : (k : ℕ) (b : Bool) → b ≡ (is_some (first_that is_outside) || is_some (first_that (is_in k))) → (b ≡ true) ↔ IsRepetition definitions (definition name (scope.Check k))
