@@ -18,10 +18,12 @@ mod byte;
 mod front;
 mod gap;
 mod laws;
+mod size;
 mod token;
 
 pub use ahead::next;
 pub use laws::{one_list_of_tokens, tokens_or_a_fact};
+pub use size::LONGEST_DECK;
 pub use token::{LexFault, Token, TokenKind};
 
 #[cfg(test)]

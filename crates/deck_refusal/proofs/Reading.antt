@@ -2,6 +2,7 @@
 use Rattle.std.proofs.Common.{◌≡◌, ◌≤◌, ℕ, List, [], ◌∷◌, ◌++◌, length, drop, Option, Some, None, Result, Ok, Err, refl, sym, ap, subst, ◌∙◌, append_assoc, append-nil, arith}
 use Rattle.std.specs.Prelude.{IfOk, IfSome, IfNone}
 use Rattle.std.proofs.lemmas.List.{map-append}
+use Rattle.deck_lexer.specs.Sizes.{longest_deck}
 use Rattle.deck_tree.specs.declared.statement.Statement.{Statement}
 use Rattle.deck_tree.specs.declared.refusal.DeckKind.{DeckKind}
 use Rattle.deck_tree.specs.declared.refusal.DeckRefusal.{DeckRefusal}
@@ -19,7 +20,7 @@ use Rattle.deck_front.proofs.Following.{ends_as_deck, deck_may_end}
 use Rattle.deck_refusal.specs.declared.walk.Walk.{Walk}
 use Rattle.deck_refusal.specs.declared.walk.Gone.{Gone}
 use Rattle.deck_refusal.specs.declared.walk.Gone.TheVariants as gone
-use Rattle.deck_refusal.specs.Refused.{max_bytes, IsTextRefused, by_tokens}
+use Rattle.deck_refusal.specs.Refused.{IsTextRefused, by_tokens}
 use Rattle.deck_refusal.specs.Working.Walking.{HasCome, GoesTo, HasRead, EndsAs, IsWrongText}
 
 lexemes-append : (text : List ℕ) (these those : List Token)
@@ -177,7 +178,7 @@ at_end_well text at walk None read none ends = ended_well text at walk read none
 
 -- ---- The whole text
 
-pub text_wrong : {E : Type 0} (text : List ℕ) (r : Result (Option DeckRefusal) E) → length text ≤ max_bytes
+pub text_wrong : {E : Type 0} (text : List ℕ) (r : Result (Option DeckRefusal) E) → length text ≤ longest_deck
     → IfOk r (λ a. IfSome a (λ it. IsWrongText text it))
     → IfOk r (λ a. IfSome a (λ it. IsTextRefused text it))
 text_wrong text (Ok (Some it)) size wrong = by_tokens wrong.tokens it size wrong.lexing wrong.refused

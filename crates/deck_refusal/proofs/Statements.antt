@@ -1,6 +1,7 @@
 -- Texts that are spelled as a deck, by their statements.
 use Rattle.std.proofs.Common.{◌≡◌, ◌≤◌, ℕ, List, [], ◌∷◌, length, inl, refl, arith}
 use Rattle.std.specs.Prelude.{Contains}
+use Rattle.deck_lexer.specs.Sizes.{longest_deck}
 use Rattle.deck_tree.specs.declared.statement.Statement.{Statement}
 use Rattle.deck_tree.specs.declared.refusal.Single.{Single}
 use Rattle.deck_tree.specs.declared.refusal.DeckKind.TheVariants as reasons
@@ -9,23 +10,23 @@ use Rattle.deck_grammar.specs.Alternatives.{no_statement}
 use Rattle.deck_grammar.specs.Spelling.{done, choose, nothing}
 use Rattle.deck_cursor.specs.Decks.{IsDeckOf}
 use Rattle.deck_refusal.proofs.Going.{never_empty}
-use Rattle.deck_refusal.specs.Refused.{max_bytes, IsTextRefused, by_tokens, IsTextAccepted}
+use Rattle.deck_refusal.specs.Refused.{IsTextRefused, by_tokens, IsTextAccepted}
 
 abbrev HasWanted : List Statement → Type 0
 HasWanted all = (one : Single) → Contains wanted one → Contains (singles all) one
 
-pub missing_so : (text : List ℕ) (all : List Statement) (which : Single) → length text ≤ max_bytes
+pub missing_so : (text : List ℕ) (all : List Statement) (which : Single) → length text ≤ longest_deck
     → IsDeckOf text all → IsMissing all which
     → IsTextRefused text (refusal_at (length text) (reasons.MissingStatement which))
 missing_so text all which size d m = by_tokens d.tokens _ size d.lexing (missing all which d.stand d.spelled m)
 
-pub repeated_so : (text : List ℕ) (all : List Statement) (which : Single) (place : ℕ) → length text ≤ max_bytes
+pub repeated_so : (text : List ℕ) (all : List Statement) (which : Single) (place : ℕ) → length text ≤ longest_deck
     → IsDeckOf text all → HasWanted all
     → IsRepeated all which place → IsTextRefused text (refusal_at place (reasons.RepeatedStatement which))
 repeated_so text all which place size d w r = by_tokens d.tokens _ size d.lexing (repeated all which place d.stand
     d.spelled w r)
 
-pub accepted_so : (text : List ℕ) (all : List Statement) → length text ≤ max_bytes → IsDeckOf text all
+pub accepted_so : (text : List ℕ) (all : List Statement) → length text ≤ longest_deck → IsDeckOf text all
     → HasWanted all → StandOnce all → IsTextAccepted text all
 accepted_so text all size d w once = record {
   tokens = d.tokens;

@@ -4,6 +4,7 @@ use Rattle.std.specs.Prelude.{ℕ, ◌<◌, ◌≤◌, List, length}
 use Rattle.deck_tree.specs.declared.statement.Statement.{Statement}
 use Rattle.deck_tree.specs.declared.refusal.DeckRefusal.{DeckRefusal}
 use Rattle.deck_tree.specs.declared.refusal.DeckKind.TheVariants as reasons
+use Rattle.deck_lexer.specs.Sizes.{longest_deck}
 use Rattle.deck_lexer.specs.declared.token.Token.{Token}
 use Rattle.deck_lexer.specs.declared.token.LexFault.{LexFault}
 use Rattle.deck_lexer.specs.declared.token.LexFault.TheVariants as faults
@@ -11,10 +12,6 @@ use Rattle.deck_lexer.specs.Tokens.{lexes, IsFirstFact}
 use Rattle.deck_grammar.specs.Refusals.{refusal_at, IsRefused, IsAccepted}
 use Rattle.deck_cursor.specs.Places.{lexemes}
 use Rattle.deck_cursor.specs.Decks.{IsDeckOf}
-
--- how many bytes a deck may have
-abbrev pub max_bytes : ℕ
-max_bytes = 4194304
 
 -- the refusal for a fact among the tokens
 abbrev pub refusal_for : LexFault → DeckRefusal
@@ -24,21 +21,21 @@ refusal_for (faults.OpenText place) = refusal_at place reasons.OpenText
 
 -- the text is refused so
 pub data IsTextRefused (text : List ℕ) : DeckRefusal → Type 0 where
-  too_long : max_bytes < length text → IsTextRefused text (refusal_at max_bytes reasons.DeckTooLong)
-  no_token : (fault : LexFault) → length text ≤ max_bytes → IsFirstFact text fault
+  too_long : longest_deck < length text → IsTextRefused text (refusal_at longest_deck reasons.DeckTooLong)
+  no_token : (fault : LexFault) → length text ≤ longest_deck → IsFirstFact text fault
       → IsTextRefused text (refusal_for fault)
-  by_tokens : (tokens : List Token) (refusal : DeckRefusal) → length text ≤ max_bytes → lexes text tokens
+  by_tokens : (tokens : List Token) (refusal : DeckRefusal) → length text ≤ longest_deck → lexes text tokens
       → IsRefused (lexemes text tokens) (length text) refusal → IsTextRefused text refusal
 
 -- the text is a deck of these statements, and is not refused
 pub record IsTextAccepted (text : List ℕ) (all : List Statement) : Type 0 where
   pub tokens : List Token
-  pub size : length text ≤ max_bytes
+  pub size : length text ≤ longest_deck
   pub lexing : lexes text tokens
   pub accepted : IsAccepted (lexemes text tokens) all
 
 -- the text is short enough and is spelled as some deck
 pub record IsSpelled (text : List ℕ) : Type 0 where
-  pub size : length text ≤ max_bytes
+  pub size : length text ≤ longest_deck
   pub all : List Statement
   pub deck : IsDeckOf text all

@@ -2,7 +2,8 @@
 
 ghost use Rattle.std.specs.Prelude.{◌≤◌, length, IfSome, IfNone};
 ghost use Rattle.deck_cursor.specs.Decks.{IsDeckOf};
-ghost use Rattle.deck_refusal.specs.Refused.{max_bytes, IsTextRefused, IsTextAccepted};
+ghost use Rattle.deck_lexer.specs.Sizes.{longest_deck};
+ghost use Rattle.deck_refusal.specs.Refused.{IsTextRefused, IsTextAccepted};
 
 use deck_grammar::{missing, repeated};
 use deck_tree::{DeckKind, DeckRefusal, Statement};
@@ -11,7 +12,7 @@ use deck_tree::{DeckKind, DeckRefusal, Statement};
 /// stands a second time; None where the text is accepted.
 #[tactic(auto, using(crate::proofs::Statements::accepted_so))]
 pub fn statements_refusal(text: &[u8], all: &[Statement]) -> Option<DeckRefusal>
-    requires size { length text.now ≤ max_bytes }
+    requires size { length text.now ≤ longest_deck }
     requires deck { IsDeckOf text.now all.now }
     ensures some { IfSome result (λ it. IsTextRefused text.now it) }
     ensures none { IfNone result (IsTextAccepted text.now all.now) }

@@ -23,7 +23,7 @@ mod whole;
 
 pub use lacking::statements_refusal;
 pub use laws::one_refusal;
-pub use whole::{MAX_BYTES, refusal};
+pub use whole::refusal;
 
 #[cfg(test)]
 mod tests;

@@ -11,11 +11,9 @@ ghost use Rattle.deck_refusal.specs.Working.Walking.{IsWrongText, EndsAs};
 use crate::fact::{first_fact, refusal_for};
 use crate::lexed::{bytes_of, kind_in, upcoming};
 use crate::walk::{Gone, Walk};
+use deck_lexer::LONGEST_DECK;
 use deck_tree::{DeckKind, DeckRefusal};
 use std::alloc::{AllocError, Global};
-
-/// How many bytes a deck may have.
-pub const MAX_BYTES: usize = 4_194_304;
 
 // The refusal where the tokens end behind the walk, if there is one.
 fn at_end(walk: &Walk, len: usize) -> Option<DeckRefusal>
@@ -61,9 +59,9 @@ pub fn refusal(alloc: Global, text: &[u8]) -> Result<Option<DeckRefusal>, AllocE
     ensures some { IfOk result (λ answer. IfSome answer (λ it. IsTextRefused text.now it)) }
     ensures none { IfOk result (λ answer. IfNone answer (IsSpelled text.now)) }
 {
-    if text.len() > MAX_BYTES {
+    if text.len() > LONGEST_DECK {
         return Ok(Some(DeckRefusal {
-            at: MAX_BYTES as u64,
+            at: LONGEST_DECK as u64,
             kind: DeckKind::DeckTooLong,
         }));
     }

@@ -19,7 +19,8 @@ use Rattle.drc_cli.specs.declared.ending.Ending.TheVariants as ending
 use Rattle.drc_cli.specs.declared.ready.Ready.{Ready}
 use Rattle.drc_cli.specs.CheckMeaning.{CheckLeads, Reports, results_of, unserved_deck}
 use Rattle.drc_cli.specs.Command.{CheckRequest}
-use Rattle.drc_cli.specs.Deck.{Deck, Spells, input_of, units_of, precision, limit, longest_deck}
+use Rattle.deck_lexer.specs.Sizes.{longest_deck}
+use Rattle.drc_cli.specs.Deck.{Deck, Spells, input_of, units_of, precision, limit}
 use Rattle.drc_cli.specs.Working.DeckAnswer.{IsReadingOf}
 use Rattle.drc_cli.specs.Working.Decide.{Leaves, FailsAt, last_steps, results_in, IsDeckRead, IsLayoutRead, IsReady, IsDecided}
 use Rattle.drc_cli.specs.Layout.{Element, Accepts, Refuses, drawn}

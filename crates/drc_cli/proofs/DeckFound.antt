@@ -5,7 +5,8 @@ use Rattle.std.specs.Option.{option_map}
 use Rattle.std.proofs.lemmas.Bool.{le-leb}
 use Rattle.std.proofs.lemmas.Option.{none-some}
 use Rattle.drc_cli.specs.declared.deck.FirstDeck.{FirstDeck}
-use Rattle.drc_cli.specs.Deck.{longest_deck, Deck, Spells}
+use Rattle.deck_lexer.specs.Sizes.{longest_deck}
+use Rattle.drc_cli.specs.Deck.{Deck, Spells}
 use Rattle.drc_cli.specs.Working.DeckReading.{Parts, parts_at, choice_of, files_differ, deck_of, deck_at}
 use Rattle.drc_cli.specs.Working.DeckAnswer.{IsReadingOf, Reads}
 use Rattle.drc_cli.proofs.DeckLaws.{deck_takes, deck_again}

@@ -6,7 +6,8 @@ use Rattle.std.proofs.lemmas.Bool.{and_parts, not-true, not_from_false, leb-true
 use Rattle.std.proofs.lemmas.List.{append-nil, nil_from_length}
 use Rattle.std.proofs.lemmas.Option.{cond_some, none-some, same_Some}
 use Rattle.std.proofs.lemmas.Slice.Eq.{bytes_eq-Decides}
-use Rattle.drc_cli.specs.Deck.{longest_deck, LayerLine, Deck, input_of, before_name, layer_line, second_line, check_lines, spelling, IsName, IsLayerLine, IsFirstForm, Spells}
+use Rattle.deck_lexer.specs.Sizes.{longest_deck}
+use Rattle.drc_cli.specs.Deck.{LayerLine, Deck, input_of, before_name, layer_line, second_line, check_lines, spelling, IsName, IsLayerLine, IsFirstForm, Spells}
 use Rattle.drc_cli.specs.Working.DeckReading.{after_words, Parts, head_at, layer_at, second_at, check_at, parts_at, choice_of, files_differ, deck_of, deck_at}
 use Rattle.list_facts.specs.Attempts.{◌>>=◌}
 use Rattle.list_facts.proofs.Attempts.{found_by}

@@ -5,6 +5,7 @@ use Rattle.std.specs.Char.{is_ascii_alphabetic, is_ascii_alphanumeric, is_ascii_
 use Rattle.std.specs.Fmt.{decimal}
 use Rattle.std.specs.List.{AllPass, list_any}
 use Rattle.std.specs.Str.{bytes_eq}
+use Rattle.deck_lexer.specs.Sizes.{longest_deck}
 use Rattle.drc_cli.specs.Printable.{is_printable}
 
 -- a layer's name, and its number in the layout
@@ -39,10 +40,6 @@ thousandths [] = 0
 thousandths (a ∷ []) = 100 * (a - 48)
 thousandths (a ∷ b ∷ []) = 100 * (a - 48) + 10 * (b - 48)
 thousandths (a ∷ b ∷ c ∷ more) = 100 * (a - 48) + 10 * (b - 48) + (c - 48)
-
--- the most bytes of a deck
-abbrev pub longest_deck : ℕ
-longest_deck = 4194304
 
 -- database units in a user unit
 abbrev pub precision : ℕ

@@ -11,7 +11,7 @@ ghost use Rattle.drc_cli.specs.Working.Decide.{IsDeckRead, IsLayoutRead, IsReady
 
 use crate::answer::Which;
 use crate::command::CheckRequest;
-use crate::deck::{FirstDeck, LIMIT, LONGEST_DECK, PRECISION, first_deck};
+use crate::deck::{FirstDeck, LIMIT, PRECISION, first_deck};
 use crate::deck_kind::{DeckKind, DeckRefusal};
 use crate::ending::Ending;
 use crate::file_name::text_of_name;
@@ -20,6 +20,7 @@ use crate::read::{ReadEnd, read_whole};
 use crate::ready::Ready;
 use crate::short_runs::short_runs;
 use crate::text::{CheckResults, Found, results_text, said_text};
+use deck_lexer::LONGEST_DECK;
 use drc_geom::{Name, Rect, Run};
 use drc_ports::Files;
 use std::alloc::{AllocError, Global};

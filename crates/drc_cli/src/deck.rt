@@ -9,6 +9,7 @@ ghost use Rattle.drc_cli.specs.Working.DeckAnswer.{IsReadingOf, Reads};
 
 use crate::deck::line::{DeckLines, Preamble, lines_of};
 use crate::deck::number::Bound;
+use deck_lexer::LONGEST_DECK;
 
 mod field;
 mod keyword;
@@ -20,9 +21,6 @@ pub const PRECISION: u32 = 1000;
 
 /// Of how many results a check writes at most.
 pub const LIMIT: usize = 1000;
-
-/// The most bytes of a deck.
-pub const LONGEST_DECK: usize = 4_194_304;
 
 /// What a deck of the first form says.
 #[derive(Drop)]

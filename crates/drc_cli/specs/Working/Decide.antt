@@ -15,7 +15,8 @@ use Rattle.drc_cli.specs.declared.ending.Ending.TheVariants as ending
 use Rattle.drc_cli.specs.declared.ready.Ready.{Ready}
 use Rattle.drc_cli.specs.CheckMeaning.{CheckLeads}
 use Rattle.drc_cli.specs.Command.{CheckRequest}
-use Rattle.drc_cli.specs.Deck.{precision, limit, longest_deck}
+use Rattle.deck_lexer.specs.Sizes.{longest_deck}
+use Rattle.drc_cli.specs.Deck.{precision, limit}
 use Rattle.drc_cli.specs.Layout.{Element, Accepts, Refuses, drawn}
 use Rattle.drc_cli.specs.Lines.{deck_line, layout_line}
 use Rattle.drc_cli.specs.Outcome.{Outcome, Step, reads, writes, says}

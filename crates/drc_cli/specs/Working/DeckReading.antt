@@ -6,7 +6,8 @@ use Rattle.std.specs.Str.{bytes_eq}
 use Rattle.std.specs.Str.Parse.{digits_value}
 use Rattle.list_facts.specs.Attempts.{◌>>=◌}
 use Rattle.drc_cli.specs.Printable.{is_printable}
-use Rattle.drc_cli.specs.Deck.{longest_deck, LayerLine, Decimal, Deck, before_layout, before_primary, before_results, before_layers, before_name, before_number, after_number, before_note, before_input, before_bound, point, after_bound, is_keyword, is_name_byte, is_file_byte}
+use Rattle.deck_lexer.specs.Sizes.{longest_deck}
+use Rattle.drc_cli.specs.Deck.{LayerLine, Decimal, Deck, before_layout, before_primary, before_results, before_layers, before_name, before_number, after_number, before_note, before_input, before_bound, point, after_bound, is_keyword, is_name_byte, is_file_byte}
 
 -- What a function returned, seen by view, is what reading gives.
 abbrev pub Gives : {X Y : Type 0} → (X → Y) → Option X → Option Y → Type 0

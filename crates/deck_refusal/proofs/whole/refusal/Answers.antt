@@ -4,8 +4,8 @@ use Rattle.deck_refusal.specs.Refused.{IsTextRefused, too_long, no_token}
 use Rattle.deck_refusal.proofs.Reading.{text_wrong}
 use Rattle.deck_refusal.proofs.whole.refusal.Goals as goal
 
-pub returns-then-text-gt-MAX_BYTES-clause-some : goal.returns-then-text-gt-MAX_BYTES-clause-some
-returns-then-text-gt-MAX_BYTES-clause-some c = too_long (omega arith)
+pub returns-then-text-gt-LONGEST_DECK-clause-some : goal.returns-then-text-gt-LONGEST_DECK-clause-some
+returns-then-text-gt-LONGEST_DECK-clause-some c = too_long (omega arith)
 
 pub returns-in-Some-clause-some : goal.returns-in-Some-clause-some
 returns-in-Some-clause-some c =
