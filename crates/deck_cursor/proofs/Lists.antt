@@ -9,7 +9,8 @@ use Rattle.deck_grammar.specs.Rules.{Rule, statements, Tree, Part, token, rule, 
 use Rattle.deck_grammar.specs.Spelling.{Spells, done, take, choose, SpellsDeck}
 use Rattle.deck_grammar.specs.declared.kind.Kind.TheVariants as kinds
 use Rattle.deck_grammar.specs.declared.sign.Sign.TheVariants as signs
-use Rattle.deck_grammar.specs.Refusals.{open_behind, max_nesting, Stand}
+use Rattle.deck_tree.specs.WellFormed.{most_nested}
+use Rattle.deck_grammar.specs.Refusals.{open_behind, Stand}
 use Rattle.deck_grammar.proofs.Fronts.{front_is_viable}
 use Rattle.deck_cursor.specs.Places.{lexeme_of, lexemes, Place, start_of, Takes}
 use Rattle.deck_tree.specs.declared.statement.Statement.{Statement}
@@ -47,7 +48,7 @@ listed {from = from} {to = to} {tree = tree} (taken {r = r} {parts = parts} {mea
     let D : Place → Type 0 = λ p. Shallow to.brackets (lexemes p.text more) → Shallow p.brackets (lexemes p.text l.whole) in
     let E : Place → Type 0 = λ p. to.text ≡ p.text in
     let O : Lexeme → Type 0 = λ x. Shallow to.brackets (lexemes from.text more) → Shallow (open_behind from.brackets (x ∷ [])) (lexemes from.text l.whole) in
-    let B : Lexeme → Type 0 = λ x. kind x ≡ kinds.Sign signs.LeftRound → from.brackets ≡ max_nesting → ⊥ in
+    let B : Lexeme → Type 0 = λ x. kind x ≡ kinds.Sign signs.LeftRound → from.brackets ≡ most_nested → ⊥ in
     record {
       whole = takes.token ∷ l.whole;
       lexing = (takes.comes, subst L takes.behind l.lexing);

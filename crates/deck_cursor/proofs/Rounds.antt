@@ -5,12 +5,13 @@ use Rattle.deck_grammar.specs.declared.kind.Kind.{Kind}
 use Rattle.deck_grammar.specs.declared.kind.Kind.TheVariants as kinds
 use Rattle.deck_grammar.specs.declared.sign.Sign.TheVariants as s
 use Rattle.deck_grammar.specs.Lexemes.{Lexeme, lexeme, kind}
-use Rattle.deck_grammar.specs.Refusals.{open_behind, max_nesting, IsTooDeep}
+use Rattle.deck_tree.specs.WellFormed.{most_nested}
+use Rattle.deck_grammar.specs.Refusals.{open_behind, IsTooDeep}
 
 -- none of the tokens opens a bracket too many, where so many are open before them
 abbrev pub Shallow : ℕ → List Lexeme → Type 0
 Shallow n [] = Unit {0}
-Shallow n (t ∷ more) = (kind t ≡ kinds.Sign s.LeftRound → n ≡ max_nesting → ⊥) × Shallow (open_behind n (t ∷ [])) more
+Shallow n (t ∷ more) = (kind t ≡ kinds.Sign s.LeftRound → n ≡ most_nested → ⊥) × Shallow (open_behind n (t ∷ [])) more
 
 pub one_by_one : (n : ℕ) (t : Lexeme) (more : List Lexeme) → open_behind n (t ∷ more) ≡ open_behind (open_behind n (t ∷ [])) more
 one_by_one n (lexeme (kinds.Keyword w) at bytes) more = refl
@@ -40,7 +41,7 @@ one_by_one n (lexeme (kinds.Sign s.Modulo) at bytes) more = refl
 one_by_one n (lexeme (kinds.Sign s.Power) at bytes) more = refl
 
 too_deep : (n : ℕ) (tokens before : List Lexeme) (token : Lexeme) (behind : List Lexeme) → Shallow n tokens → tokens ≡ before ++ token ∷ behind
-    → kind token ≡ kinds.Sign s.LeftRound → open_behind n before ≡ max_nesting → ⊥
+    → kind token ≡ kinds.Sign s.LeftRound → open_behind n before ≡ most_nested → ⊥
 too_deep n [] [] token behind shallow e is deep = absurd (cc)
 too_deep n [] (b ∷ before) token behind shallow e is deep = absurd (cc)
 too_deep n (t ∷ tokens) [] token behind shallow e is deep =

@@ -9,7 +9,8 @@ use Rattle.deck_grammar.specs.declared.kind.Kind.TheVariants as kinds
 use Rattle.deck_grammar.specs.declared.sign.Sign.TheVariants as s
 use Rattle.deck_grammar.specs.Words.{word_kind, sign_kind}
 use Rattle.deck_grammar.specs.Lexemes.{Lexeme, lexeme, kind}
-use Rattle.deck_grammar.specs.Refusals.{open_behind, max_nesting}
+use Rattle.deck_tree.specs.WellFormed.{most_nested}
+use Rattle.deck_grammar.specs.Refusals.{open_behind}
 
 -- what a token with these bytes is to the grammar
 abbrev pub kind_in : TokenKind → List ℕ → Kind
@@ -43,7 +44,7 @@ pub record Takes (from : Place) (taken : Lexeme) (to : Place) : Type 0 where
   pub token : Token
   pub comes : Comes from.at (drop from.at from.text) (Ok (Some token))
   pub is : taken ≡ lexeme_of from.text token
-  pub not_too_deep : kind taken ≡ kinds.Sign s.LeftRound → from.brackets ≡ max_nesting → ⊥
+  pub not_too_deep : kind taken ≡ kinds.Sign s.LeftRound → from.brackets ≡ most_nested → ⊥
   pub behind : to ≡ record { text = from.text; at = token.end; brackets = open_behind from.brackets (taken ∷ []) }
 
 -- no token of this kind comes that opens no bracket too many

@@ -11,6 +11,7 @@ use Rattle.deck_tree.specs.declared.refusal.Counted.TheVariants as counted
 use Rattle.deck_tree.specs.declared.refusal.DeckKind.{DeckKind}
 use Rattle.deck_tree.specs.declared.refusal.DeckKind.TheVariants as reasons
 use Rattle.deck_tree.specs.declared.refusal.DeckRefusal.{DeckRefusal}
+use Rattle.deck_tree.specs.WellFormed.{most_nested}
 use Rattle.deck_grammar.specs.declared.keyword.Keyword.{Keyword}
 use Rattle.deck_grammar.specs.declared.keyword.Keyword.TheVariants as k
 use Rattle.deck_grammar.specs.declared.sign.Sign.{Sign}
@@ -93,13 +94,9 @@ open_behind n (lexeme (kinds.Sign s.LeftRound) place bytes ∷ more) = open_behi
 open_behind n (lexeme (kinds.Sign s.RightRound) place bytes ∷ more) = open_behind (n - 1) more
 open_behind n (lexeme other place bytes ∷ more) = open_behind n more
 
--- how many round brackets may stand inside one another
-abbrev pub max_nesting : ℕ
-max_nesting = 64
-
 -- the token opens a round bracket inside as many as there may be
 abbrev pub IsTooDeep : List Lexeme → Lexeme → Type 0
-IsTooDeep before token = (kind token ≡ kinds.Sign s.LeftRound) × (open_behind 0 before ≡ max_nesting)
+IsTooDeep before token = (kind token ≡ kinds.Sign s.LeftRound) × (open_behind 0 before ≡ most_nested)
 
 -- the tokens can stand behind one another: they are a front of a deck, and no round bracket is one too many
 abbrev pub Stand : List Lexeme → Type 0

@@ -12,7 +12,8 @@ use Rattle.deck_grammar.specs.declared.kind.Kind.TheVariants as kinds
 use Rattle.deck_grammar.specs.Lexemes.{Lexeme, lexeme}
 use Rattle.deck_grammar.specs.Rules.{Part, rule, statements}
 use Rattle.deck_grammar.specs.Spelling.{Viable, nothing}
-use Rattle.deck_grammar.specs.Refusals.{open_behind, max_nesting, IsTooDeep, Stand, AwaitsPrimary, IsSetAside, IsWrong, set_aside, no_place, too_deep}
+use Rattle.deck_tree.specs.WellFormed.{most_nested}
+use Rattle.deck_grammar.specs.Refusals.{open_behind, IsTooDeep, Stand, AwaitsPrimary, IsSetAside, IsWrong, set_aside, no_place, too_deep}
 use Rattle.deck_refusal.proofs.Rounds.{one_by_one}
 use Rattle.deck_front.specs.Stacks.{Behind, AreNext}
 use Rattle.deck_front.proofs.Following.{at_first, behind_more, viable_has_stacks, stacks_are_viable}
@@ -133,7 +134,7 @@ pub record Passes (old : Walk) (x : Kind) (new : Walk) : Type 0 where
   pub some : new.stacks ≡ [] → ⊥
   pub brackets : new.brackets ≡ open_behind old.brackets (lexeme x 0 [] ∷ [])
   pub few : new.brackets ≤ 64
-  pub fine : x ≡ kinds.Sign s.LeftRound → old.brackets ≡ max_nesting → ⊥
+  pub fine : x ≡ kinds.Sign s.LeftRound → old.brackets ≡ most_nested → ⊥
   pub recent : new.recent.items ≡ take 7 (x ∷ old.recent.items)
 
 pub passed : (before : List Lexeme) (old : Walk) (x : Kind) (at : ℕ) (bytes : List ℕ) (new : Walk)
@@ -193,7 +194,7 @@ wrong_so before walk next x at bytes reason come are none m =
 
 pub too_deep_so : (before : List Lexeme) (walk : Walk) (next : List (List Part)) (x : Kind) (at : ℕ) (bytes : List ℕ)
     → HasCome before walk
-    → AreNext x walk.stacks next → (next ≡ [] → ⊥) → (x ≡ kinds.Sign s.LeftRound) × (walk.brackets ≡ max_nesting)
+    → AreNext x walk.stacks next → (next ≡ [] → ⊥) → (x ≡ kinds.Sign s.LeftRound) × (walk.brackets ≡ most_nested)
     → IsWrong before (lexeme x at bytes) (reasons.TooMany counted.Nesting)
 too_deep_so before walk next x at bytes come are some deep =
     let b = behind_more before walk.stacks next x at bytes are come.stacks in
