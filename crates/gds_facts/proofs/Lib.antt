@@ -1,4 +1,4 @@
 mod Lists
 mod OpenedMore
-mod OneFact
+pub mod OneFact
 mod Taking

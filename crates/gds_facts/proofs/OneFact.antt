@@ -45,7 +45,7 @@ one_kind precision before here kinds.UnitsMismatch kinds.UnitsMismatch p q = ref
 one_kind precision before here kinds.UnitsMismatch l p q = absurd q
 one_kind precision before here k l p q = absurd p
 
-refusal_is : (a b : LayoutRefusal) → a.at ≡ b.at → a.kind ≡ b.kind → a ≡ b
+pub refusal_is : (a b : LayoutRefusal) → a.at ≡ b.at → a.kind ≡ b.kind → a ≡ b
 refusal_is a b at kind = λ i. let r : LayoutRefusal = record { at = at i; kind = kind i } in r
 
 pub one : (precision : ℕ) (items : List Item) (a b : LayoutRefusal) → IsRefused precision items a → IsRefused precision items b → a ≡ b

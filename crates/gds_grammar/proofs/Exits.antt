@@ -15,7 +15,7 @@ join (once_more g p) q = once_more g (join p q)
 join (by_these p) q = by_these (join p q)
 join (by_those p) q = by_those (join p q)
 
-record Parted (steps those : Steps) (types rest : List ℕ) : Type 0 where
+pub record Parted (steps those : Steps) (types rest : List ℕ) : Type 0 where
   pub between : List ℕ
   pub first : Spells steps types between
   pub then : Spells those between rest
@@ -45,7 +45,7 @@ parted (once_more g p) (at_many k) = let q = parted p (at_many k) in record { be
 parted (by_these p) (at_either k m) = let q = parted p k in record { between = q.between; first = by_these q.first; then = q.then }
 parted (by_those p) (at_either k m) = let q = parted p m in record { between = q.between; first = by_those q.first; then = q.then }
 
-part : (steps : Steps) {those : Steps} {types rest : List ℕ} → Spells (behind steps those) types rest → Parted steps those types rest
+pub part : (steps : Steps) {those : Steps} {types rest : List ℕ} → Spells (behind steps those) types rest → Parted steps those types rest
 part steps {those = those} p = parted p (at steps those)
 
 -- ---- Types that begin with a way

@@ -71,7 +71,7 @@ example (many group after) rest = let e = example after rest in record { types =
 example (either these those) rest = let e = example these rest in record { types = e.types; spelled = by_these e.spelled }
 
 -- what is spelled stays so, whatever follows
-longer : {steps : Steps} {types rest : List ℕ} → Spells steps types rest → (more : List ℕ) → Spells steps (types ++ more) (rest ++ more)
+pub longer : {steps : Steps} {types rest : List ℕ} → Spells steps types rest → (more : List ℕ) → Spells steps (types ++ more) (rest ++ more)
 longer nothing_more more = nothing_more
 longer (a_record p) more = a_record (longer p more)
 longer (without p) more = without (longer p more)

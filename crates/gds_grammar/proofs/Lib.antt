@@ -1,5 +1,5 @@
 pub mod Fronts
-mod Exits
+pub mod Exits
 mod Table
 mod Chosen
 pub mod Slots

@@ -1,5 +1,5 @@
 -- A list of records has one first fact at most.
-use Rattle.std.proofs.Common.{◌≡◌, refl, sym, ◌∙◌, ap, subst, ℕ, Bool, true, false, ◌||◌, ◌==◌, if◌then◌else◌, List, [], ◌∷◌, ◌++◌, ◌⊎◌, inl, inr}
+use Rattle.std.proofs.Common.{◌≡◌, refl, sym, ◌∙◌, ap, subst, ℕ, Bool, true, false, ◌||◌, if◌then◌else◌, List, [], ◌∷◌, ◌++◌, ◌⊎◌, inl, inr}
 use Rattle.std.specs.Str.{bytes_eq}
 use Rattle.std.proofs.lemmas.Bool.{true≢false, or_cases, eq-eqb}
 use Rattle.std.proofs.lemmas.List.Folds.{list_any-append}
@@ -12,6 +12,7 @@ use Rattle.gds_records.specs.RecordTypes.{code_of}
 use Rattle.gds_records.specs.Records.{Item}
 use Rattle.gds_facts.specs.Facts.{AreFine, IsFact}
 use Rattle.gds_facts.specs.Facts as each
+use Rattle.gds_facts.proofs.OneFact.{refusal_is}
 use Rattle.gds_library.specs.Fields.{name}
 use Rattle.gds_library.specs.Facts.{has_name, AreDistinct, names_in, IsDuplicate, IsStreamFact, AreAccepted, IsRefused}
 use Rattle.gds_library.proofs.Facts.{names-append}
@@ -74,9 +75,6 @@ split : (precision : ℕ) (items : List Item) (item : Item) (kind : LayoutKind) 
     → ((kind ≡ kinds.DuplicateStructure) × AreFine precision (items ++ item ∷ []) × IsDuplicate items item) ⊎ IsFact precision items item kind
 split precision items item kinds.DuplicateStructure fact = inl (refl, fact.0, fact.1)
 split precision items item kind fact = inr fact
-
-refusal_is : (a b : LayoutRefusal) → a.at ≡ b.at → a.kind ≡ b.kind → a ≡ b
-refusal_is a b at kind = λ i. let r : LayoutRefusal = record { at = at i; kind = kind i } in r
 
 module _ (lower_one : (precision : ℕ) (items : List Item) (a b : LayoutRefusal) → each.IsRefused precision items a → each.IsRefused precision items b → a ≡ b)
     (lower_not_both : (precision : ℕ) (items : List Item) (a : LayoutRefusal) → AreFine precision items → each.IsRefused precision items a → ⊥) where

@@ -8,15 +8,16 @@ use Rattle.gds_grammar.specs.declared.line.Shape.TheVariants as shapes
 use Rattle.gds_grammar.specs.declared.line.Reference.TheVariants as references
 use Rattle.gds_grammar.specs.declared.line.Line.{Line}
 use Rattle.gds_grammar.specs.declared.line.Line.TheVariants as lines
-use Rattle.gds_grammar.specs.Steps.{Steps, done, once, maybe, many, Spells, nothing_more, a_record, no_more, once_more, by_these, by_those}
+use Rattle.gds_grammar.specs.Steps.{Steps, done, once, maybe, Spells, nothing_more, a_record, no_more, once_more, by_these, by_those}
 use Rattle.gds_grammar.specs.Working.Exits.{behind}
-use Rattle.gds_grammar.specs.Grammar.{◌⇒◌, element_of, element, elements, structure, structures, class, IsStream}
+use Rattle.gds_grammar.specs.Grammar.{element_of, element, elements, structure, structures, class, IsStream}
 use Rattle.gds_facts.specs.Opened.{types_of}
 use Rattle.gds_library.specs.Library.{Drawing, Structure, Library}
 use Rattle.gds_library.specs.Fields.{name, real}
 use Rattle.gds_library.specs.Elements as drawn
 use Rattle.gds_library.specs.Streams.{AreSpelled, HasType, own_steps, closing_steps, head_steps, ReadsElements, no_more_elements, one_more_element, ReadsStructures, no_more_structures, one_more_structure, ReadsAs}
-use Rattle.gds_library.proofs.Spelled.{Parted, part, Begins, begins, First, first, none_left, opened_with}
+use Rattle.gds_grammar.proofs.Exits.{Parted, part}
+use Rattle.gds_library.proofs.Spelled.{begins, first, none_left, opened_with}
 
 -- ---- Elements
 

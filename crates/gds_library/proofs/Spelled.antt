@@ -1,22 +1,13 @@
 -- What steps spell, by itself, and the records that it is.
 use Rattle.std.proofs.Common.{◌≡◌, refl, sym, ◌∙◌, ap, subst, ℕ, List, [], ◌∷◌, ◌++◌, append_assoc}
 use Rattle.gds_records.specs.Records.{Item}
-use Rattle.gds_grammar.specs.Steps.{Steps, done, once, maybe, many, either, Spells, nothing_more, a_record, without, with_group, no_more, once_more, by_these, by_those}
+use Rattle.gds_grammar.specs.Steps.{Steps, done, once, Spells, nothing_more, a_record, without, with_group, no_more, once_more, by_these, by_those}
 use Rattle.gds_grammar.specs.Working.Exits.{behind}
+use Rattle.gds_grammar.proofs.Fronts.{longer}
 use Rattle.gds_facts.specs.Opened.{types_of}
 use Rattle.gds_library.specs.Streams.{AreSpelled}
 
 -- ---- Types
-
-weaken : {steps : Steps} {types rest : List ℕ} → Spells steps types rest → (more : List ℕ) → Spells steps (types ++ more) (rest ++ more)
-weaken nothing_more more = nothing_more
-weaken (a_record p) more = a_record (weaken p more)
-weaken (without p) more = without (weaken p more)
-weaken (with_group g p) more = with_group (weaken g more) (weaken p more)
-weaken (no_more p) more = no_more (weaken p more)
-weaken (once_more g p) more = once_more (weaken g more) (weaken p more)
-weaken (by_these p) more = by_these (weaken p more)
-weaken (by_those p) more = by_those (weaken p more)
 
 -- the types that the steps spell, without those behind them
 record Own (steps : Steps) (types rest : List ℕ) : Type 0 where
@@ -24,8 +15,8 @@ record Own (steps : Steps) (types rest : List ℕ) : Type 0 where
   pub is : types ≡ own ++ rest
   pub spelled : Spells steps own []
 
-longer : (a b types between rest : List ℕ) → types ≡ a ++ between → between ≡ b ++ rest → types ≡ (a ++ b) ++ rest
-longer a b types between rest p q = p ∙ ap (λ those. a ++ those) q ∙ sym (append_assoc a b rest)
+joined : (a b types between rest : List ℕ) → types ≡ a ++ between → between ≡ b ++ rest → types ≡ (a ++ b) ++ rest
+joined a b types between rest p q = p ∙ ap (λ those. a ++ those) q ∙ sym (append_assoc a b rest)
 
 own : {steps : Steps} {types rest : List ℕ} → Spells steps types rest → Own steps types rest
 own nothing_more = record { own = []; is = refl; spelled = nothing_more }
@@ -34,49 +25,14 @@ own (without p) = let q = own p in record { own = q.own; is = q.is; spelled = wi
 own (with_group {types = types} {between = between} {rest = rest} g p) =
     let a = own g in
     let b = own p in
-    record { own = a.own ++ b.own; is = longer a.own b.own types between rest a.is b.is; spelled = with_group (weaken a.spelled b.own) b.spelled }
+    record { own = a.own ++ b.own; is = joined a.own b.own types between rest a.is b.is; spelled = with_group (longer a.spelled b.own) b.spelled }
 own (no_more p) = let q = own p in record { own = q.own; is = q.is; spelled = no_more q.spelled }
 own (once_more {types = types} {between = between} {rest = rest} g p) =
     let a = own g in
     let b = own p in
-    record { own = a.own ++ b.own; is = longer a.own b.own types between rest a.is b.is; spelled = once_more (weaken a.spelled b.own) b.spelled }
+    record { own = a.own ++ b.own; is = joined a.own b.own types between rest a.is b.is; spelled = once_more (longer a.spelled b.own) b.spelled }
 own (by_these p) = let q = own p in record { own = q.own; is = q.is; spelled = by_these q.spelled }
 own (by_those p) = let q = own p in record { own = q.own; is = q.is; spelled = by_those q.spelled }
-
--- ---- Steps behind steps
-
-pub record Parted (steps those : Steps) (types rest : List ℕ) : Type 0 where
-  pub between : List ℕ
-  pub first : Spells steps types between
-  pub then : Spells those between rest
-
--- the whole is the steps and then those
-data At : (steps those whole : Steps) → Type 0 where
-  at_done : {those : Steps} → At done those those
-  at_once : {type : ℕ} {after those whole : Steps} → At after those whole → At (once type after) those (once type whole)
-  at_maybe : {group after those whole : Steps} → At after those whole → At (maybe group after) those (maybe group whole)
-  at_many : {group after those whole : Steps} → At after those whole → At (many group after) those (many group whole)
-  at_either : {a b those whole other : Steps} → At a those whole → At b those other → At (either a b) those (either whole other)
-
-at : (steps those : Steps) → At steps those (behind steps those)
-at done those = at_done
-at (once type after) those = at_once (at after those)
-at (maybe group after) those = at_maybe (at after those)
-at (many group after) those = at_many (at after those)
-at (either a b) those = at_either (at a those) (at b those)
-
-parted : {whole : Steps} {types rest : List ℕ} → Spells whole types rest → {steps those : Steps} → At steps those whole → Parted steps those types rest
-parted p at_done = record { between = _; first = nothing_more; then = p }
-parted (a_record p) (at_once k) = let q = parted p k in record { between = q.between; first = a_record q.first; then = q.then }
-parted (without p) (at_maybe k) = let q = parted p k in record { between = q.between; first = without q.first; then = q.then }
-parted (with_group g p) (at_maybe k) = let q = parted p k in record { between = q.between; first = with_group g q.first; then = q.then }
-parted (no_more p) (at_many k) = let q = parted p k in record { between = q.between; first = no_more q.first; then = q.then }
-parted (once_more g p) (at_many k) = let q = parted p (at_many k) in record { between = q.between; first = once_more g q.first; then = q.then }
-parted (by_these p) (at_either k m) = let q = parted p k in record { between = q.between; first = by_these q.first; then = q.then }
-parted (by_those p) (at_either k m) = let q = parted p m in record { between = q.between; first = by_those q.first; then = q.then }
-
-pub part : (steps : Steps) {those : Steps} {types rest : List ℕ} → Spells (behind steps those) types rest → Parted steps those types rest
-part steps {those = those} p = parted p (at steps those)
 
 -- ---- Records
 

@@ -3,6 +3,7 @@ use Rattle.std.proofs.Common.{◌≡◌, inl, inr, Bool, true, false, not, ◌&&
 use Rattle.std.proofs.lemmas.Int.{ints, by_lt_z}
 use Rattle.std.proofs.lemmas.List.{take_more}
 use mathlib.Core.Bool.{true≢false}
+use Rattle.std.proofs.Math.Bool.{or-true}
 use Rattle.std.specs.List.{AllByRecursion}
 use Rattle.list_facts.specs.Between.{between}
 use Rattle.list_facts.specs.EitherOr.{exactly_one}
@@ -85,10 +86,6 @@ is_begun (From a) = true
 none_begun : {a : ℤ} → None ≡ From a → ⊥
 none_begun e = true≢false (sym (ap is_begun e))
 
-or_true : (b : Bool) → (b || true) ≡ true
-or_true true = refl
-or_true false = refl
-
 -- ---- the squares next to the line of a flip
 
 module _ (past : List Flip) (f : Flip) (rest : List Flip) (lower : AllByRecursion (λ g. StandsBefore g f) past) (wide : f.x0 <ℤ f.x1) (higher : AllByRecursion (StandsBefore f) rest) where
@@ -159,7 +156,7 @@ module _ (past : List Flip) (f : Flip) (rest : List Flip) (lower : AllByRecursio
     begun_has x y a e l =
         s.has x y
         ∙ (ap (λ v. covered rects x y || has_begun v x) e
-        ∙ (ap (λ b. covered rects x y || b) (le_true a x l) ∙ or_true (covered rects x y)))
+        ∙ (ap (λ b. covered rects x y || b) (le_true a x l) ∙ or-true (covered rects x y)))
 
     none_has : (y : ℤ) → value_from None row y ≡ None → squares past y f.y ≡ false
     none_has y e =

@@ -1,16 +1,13 @@
 -- Joined pieces: they tile the same rows, and neighbours differ.
-use Rattle.std.proofs.Common.{◌≡◌, Bool, true, false, cond, ℤ, ◌<ℤ◌, List, [], ◌∷◌, refl, sym, subst, ap, ◌∙◌, arith}
+use Rattle.std.proofs.Common.{◌≡◌, true, false, cond, ℤ, ◌<ℤ◌, List, [], ◌∷◌, sym, subst, ap, ◌∙◌, arith}
 use Rattle.std.proofs.lemmas.Int.{ints, by_lt_z}
 use Rattle.list_facts.proofs.Tests.{clash}
+use Rattle.chunked_list.proofs.Stretches.{by_test}
 use Rattle.row_state.specs.declared.piece.Piece.{Piece}
 use Rattle.row_state.specs.Pieces.{Tile}
 use Rattle.region_rects.specs.declared.stretch.Stretch.{Stretch}
 use Rattle.region_rects.specs.Working.Joins.{Differ, FirstDiffers, joined, joined_from}
 use Rattle.region_rects.specs.Working.Stretches.{equal_same, same_equal, same_stretch}
-
-by_test : {A : Type 0} (b : Bool) → (b ≡ true → A) → (b ≡ false → A) → A
-by_test true f g = f refl
-by_test false f g = g refl
 
 pub join_same : (p q : Piece Stretch) (qs : List (Piece Stretch)) → same_stretch p.old q.old ≡ true → joined_from p (q ∷ qs) ≡ joined_from (record { x0 = p.x0; x1 = q.x1; old = p.old }) qs
 join_same p q qs e = ap (λ b. cond b (joined_from (record { x0 = p.x0; x1 = q.x1; old = p.old }) qs) (p ∷ joined_from q qs)) e

@@ -11,10 +11,12 @@ use Rattle.std.specs.Ordering.{eq_by_cmp, int_cmp, is_eq, ordering_then}
 use Rattle.std.specs.declared.cmp.Ordering.{Ordering}
 use Rattle.std.specs.declared.cmp.Ordering.TheVariants.{Less, Equal, Greater}
 use mathlib.Core.Bool.{true≢false}
+use Rattle.std.proofs.Math.Bool.{or-true}
 use Rattle.list_facts.proofs.InOrder.{ordered_from_sorted}
 use Rattle.list_facts.proofs.Members.{Has, all_from_has, has_holds, has_permuted}
 use Rattle.list_facts.proofs.Tests.{between_true, clash}
 use Rattle.drc_geom.specs.declared.rect.Rect.{Rect}
+use Rattle.chunked_list.proofs.Stretches.{by_test}
 use Rattle.drc_geom.specs.Squares.{IsRect, covered, squares_of}
 use Rattle.region_rects.specs.Canonical.{rect_order}
 use Rattle.region_rects.specs.Disjoint.{AreDisjoint}
@@ -27,10 +29,6 @@ pub record IsCoveredBy (rs : List Rect) (x y : ℤ) : Type 0 where
   pub listed : Has rs rect
   pub has : squares_of rect x y ≡ true
 
-by_test : {A : Type 0} (b : Bool) → (b ≡ true → A) → (b ≡ false → A) → A
-by_test true f g = f refl
-by_test false f g = g refl
-
 pub covered_by : (rs : List Rect) (x y : ℤ) → covered rs x y ≡ true → IsCoveredBy rs x y
 covered_by [] x y e = absurd (true≢false (sym e))
 covered_by (r ∷ rs) x y e =
@@ -40,16 +38,12 @@ covered_by (r ∷ rs) x y e =
     let rest = covered_by rs x y (sym (ap (λ b. b || covered rs x y) f) ∙ e) in
     record { rect = rest.rect; listed = inr rest.listed; has = rest.has })
 
-or_true : (b : Bool) → (b || true) ≡ true
-or_true true = refl
-or_true false = refl
-
 pub covers_listed : (rs : List Rect) (r : Rect) (x y : ℤ) → Has rs r → squares_of r x y ≡ true → covered rs x y ≡ true
 covers_listed [] r x y h e = absurd h
 covers_listed (q ∷ rs) r x y h e =
     elim h [
       | inl s ↦ ap (λ b. b || covered rs x y) (ap (λ p. squares_of p x y) s ∙ e)
-      | inr k ↦ ap (λ b. squares_of q x y || b) (covers_listed rs r x y k e) ∙ or_true (squares_of q x y)
+      | inr k ↦ ap (λ b. squares_of q x y || b) (covers_listed rs r x y k e) ∙ or-true (squares_of q x y)
     ]
 
 one_way : (xs ys : List Rect) (x y : ℤ) → IsPermutation xs ys → covered xs x y ≡ true → covered ys x y ≡ true

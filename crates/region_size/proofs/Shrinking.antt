@@ -1,5 +1,5 @@
 -- Shrinking by what is outside: a square stays where no square outside is near.
-use Rattle.std.proofs.Common.{◌≡◌, ◌↔◌, Bool, true, false, not, ◌&&◌, ◌||◌, ℤ, pos, ◌+ℤ◌, ◌-ℤ◌, ◌≤ℤ◌, refl, sym, subst, ap, ◌∙◌, arith}
+use Rattle.std.proofs.Common.{◌≡◌, ◌↔◌, true, false, not, ◌&&◌, ◌||◌, ℤ, pos, ◌+ℤ◌, ◌-ℤ◌, ◌≤ℤ◌, refl, sym, subst, ap, ◌∙◌, arith}
 use Rattle.std.proofs.lemmas.Int.{ints}
 use Rattle.std.proofs.lemmas.Bool.{and_from, not-true}
 use Rattle.std.specs.Cmp.{first_so, second_so}
@@ -7,11 +7,8 @@ use Rattle.list_facts.specs.Between.{between}
 use Rattle.list_facts.proofs.Tests.{between_true, clash, from_between, or_right_known, up_to_between}
 use Rattle.drc_geom.specs.Squares.{Squares, squares_of}
 use Rattle.drc_geom.specs.declared.rect.Rect.{Rect}
+use Rattle.chunked_list.proofs.Stretches.{by_test}
 use Rattle.region_size.specs.Sizes.{AllNear, HasNear, IsNear, IsWithin, LieWithin}
-
-by_bool : {A : Type 0} (b : Bool) → (b ≡ true → A) → (b ≡ false → A) → A
-by_bool true p q = p refl
-by_bool false p q = q refl
 
 near_itself : (d x y : ℤ) → pos 0 ≤ℤ d → IsNear d x y x y
 near_itself d x y z = record { right = omega (arith, ints); left = omega (arith, ints); above = omega (arith, ints); below = omega (arith, ints) }
@@ -19,7 +16,7 @@ near_itself d x y z = record { right = omega (arith, ints); left = omega (arith,
 module _ (set all outside near after : Squares) (d : ℤ) (z : pos 0 ≤ℤ d) (looked : (x y column row : ℤ) → set x y ≡ true → IsNear d x y column row → all column row ≡ true) (is_outside : (x y : ℤ) → outside x y ≡ (all x y && not (set x y))) (is_near : (x y : ℤ) → (near x y ≡ true) ↔ HasNear outside d x y) (is_after : (x y : ℤ) → after x y ≡ (set x y && not (near x y))) where
   stays : (x y column row : ℤ) → set x y ≡ true → near x y ≡ false → IsNear d x y column row → set column row ≡ true
   stays x y column row s n i =
-      by_bool (set column row) (λ t. t)
+      by_test (set column row) (λ t. t)
       (λ f.
       clash (near x y)
       ((is_near x y).1 (record { column = column; row = row; near = i; has = is_outside column row ∙ and_from _ _ (looked x y column row s i) (ap not f) }))
@@ -27,7 +24,7 @@ module _ (set all outside near after : Squares) (d : ℤ) (z : pos 0 ≤ℤ d) (
 
   goes : (x y : ℤ) → AllNear set d x y → near x y ≡ false
   goes x y a =
-      by_bool (near x y)
+      by_test (near x y)
       (λ t.
       let h = (is_near x y).0 t in
       let o = second_so (all h.column h.row) (not (set h.column h.row)) (sym (is_outside h.column h.row) ∙ h.has) in
