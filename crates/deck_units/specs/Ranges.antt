@@ -4,8 +4,8 @@
 --     a check bound at a precision of 1000: 0.2 is 200; 0.0005 is below 1; 0.0015 is in the range and no whole number
 use Rattle.std.specs.Prelude.{◌≡◌, ◌⊎◌, true, false, ℕ, ◌*◌, ℤ, pos, negsuc, ◌*ℤ◌, ◌≤ℤ◌, Bool, Option, Some, None, Result, Ok, Err, IfSome}
 use Rattle.drc_num.specs.Fractions.{Fraction}
-use Rattle.deck_units.specs.declared.place.Place.{Place}
-use Rattle.deck_units.specs.declared.place.Place.TheVariants as place
+use Rattle.deck_units.specs.declared.place.ValuePlace.{ValuePlace}
+use Rattle.deck_units.specs.declared.place.ValuePlace.TheVariants as place
 use Rattle.deck_units.specs.declared.range.Range.{Range}
 use Rattle.deck_units.specs.declared.unit_fault.UnitFault.{UnitFault}
 use Rattle.deck_units.specs.declared.unit_fault.UnitFault.TheVariants as fault
@@ -43,7 +43,7 @@ count low high = record { scale = 1; low = low; high = Some high; is_count = tru
 
 -- The range of each place. Lengths are in database units, of which a micron has as many as the precision says, and areas in
 -- their squares.
-abbrev pub range_of : Place → (precision : ℕ) → Range
+abbrev pub range_of : ValuePlace → (precision : ℕ) → Range
 range_of place.LayerNumber precision = count (pos 0) (pos 65535)
 range_of place.Precision precision = count (pos 1) (pos 1000000)
 range_of place.MaximumResults precision = count (pos 0) (pos 1000000000)

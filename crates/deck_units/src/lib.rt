@@ -15,7 +15,7 @@ mod range;
 mod unit_fault;
 
 pub use measure::{in_range, range_of};
-pub use place::Place;
+pub use place::ValuePlace;
 pub use range::Range;
 pub use unit_fault::UnitFault;
 

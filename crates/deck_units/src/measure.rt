@@ -3,7 +3,7 @@
 ghost use Rattle.std.specs.Prelude.{◌≡◌, ◌^◌, ◌≤◌, ◌↔◌, ◌*ℤ◌, ◌≤ℤ◌, pos, IsTrue, IfSome, if◌then◌else◌};
 ghost use Rattle.deck_units.specs.Ranges.{IsMeasure, range, count, range_of};
 
-use crate::{Place, Range, UnitFault};
+use crate::{Range, UnitFault, ValuePlace};
 use drc_num::Frac;
 
 /// The greatest length that a check or an operation takes.
@@ -24,22 +24,22 @@ pub fn in_range(value: &Frac, range: &Range) -> Result<i128, UnitFault>
 }
 
 /// What a place takes at a precision.
-pub fn range_of(place: Place, precision: u32) -> Range
+pub fn range_of(place: ValuePlace, precision: u32) -> Range
     requires { precision ≤ 1000000 }
     ensures range { result ≡ range_of place precision }
     ensures scale { result.scale ≤ 2 ^ 40 }
 {
     let scale = u64::from(precision);
     match place {
-        Place::LayerNumber => count(0, 65535),
-        Place::Precision => count(1, 1_000_000),
-        Place::MaximumResults => count(0, 1_000_000_000),
-        Place::Abut => count(90, 90),
-        Place::Size => range(scale, -MOST_LENGTH, Some(MOST_LENGTH)),
-        Place::TurnedSize => range(scale, 0, Some(MOST_LENGTH)),
-        Place::Distance => range(scale, 1, Some(MOST_LENGTH)),
-        Place::Length => range(scale, 0, None),
-        Place::Area => range(scale * scale, 0, None),
+        ValuePlace::LayerNumber => count(0, 65535),
+        ValuePlace::Precision => count(1, 1_000_000),
+        ValuePlace::MaximumResults => count(0, 1_000_000_000),
+        ValuePlace::Abut => count(90, 90),
+        ValuePlace::Size => range(scale, -MOST_LENGTH, Some(MOST_LENGTH)),
+        ValuePlace::TurnedSize => range(scale, 0, Some(MOST_LENGTH)),
+        ValuePlace::Distance => range(scale, 1, Some(MOST_LENGTH)),
+        ValuePlace::Length => range(scale, 0, None),
+        ValuePlace::Area => range(scale * scale, 0, None),
     }
 }
 

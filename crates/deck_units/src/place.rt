@@ -1,6 +1,6 @@
 /// A place of a deck that takes a value.
 #[derive(Clone, Copy, Debug, PartialEq, Eq)]
-pub enum Place {
+pub enum ValuePlace {
     /// A number of LAYER or LAYER MAP.
     LayerNumber,
     Precision,

@@ -6,7 +6,7 @@ use Rattle.std.proofs.lemmas.Bool.Decides.{nat_tests}
 use Rattle.std.proofs.Math.IntN.{zero-*ℤ, *ℤ-zero}
 use Rattle.drc_geom.specs.declared.point.Pt.{Pt}
 use Rattle.drc_geom.specs.Turns.{mirrored, turned}
-use Rattle.gds_placing.specs.declared.place.Place.{Place}
+use Rattle.gds_placing.specs.declared.place.Placement.{Placement}
 use Rattle.gds_placing.proofs.Linear.{more, product_more}
 use Rattle.gds_placing.specs.Places.{magnified, moved, place_of, is_reached}
 
@@ -114,7 +114,7 @@ between_turned (suc n) a b p h =
 pub between_moved : (by a b p : Pt) → IsBetween a b p → IsBetween (moved by a) (moved by b) (moved by p)
 between_moved by a b p h = record { x = among_sum by.x a.x b.x p.x h.x; y = among_sum by.y a.y b.y p.y h.y }
 
-between_placed : (place : Place) (a b p : Pt) → IsBetween a b p
+between_placed : (place : Placement) (a b p : Pt) → IsBetween a b p
     → IsBetween (place_of place a) (place_of place b) (place_of place p)
 between_placed place a b p h =
     between_moved place.origin _ _ _
@@ -139,7 +139,7 @@ reached_between a b p h s t =
     and_from _ _ (within_reach a.x b.x p.x h.x at_a.0 at_b.0) (within_reach a.y b.y p.y h.y at_a.1 at_b.1)
 
 -- what is between two points that are drawn within reach is drawn within reach
-pub drawn_between : (place : Place) (a b p : Pt) → IsBetween a b p
+pub drawn_between : (place : Placement) (a b p : Pt) → IsBetween a b p
     → IsTrue (is_reached (place_of place a)) → IsTrue (is_reached (place_of place b))
     → IsTrue (is_reached (place_of place p))
 drawn_between place a b p h s t =

@@ -5,7 +5,7 @@ use Rattle.std.proofs.lemmas.Bool.{and_from, and_parts, cases_lt}
 use Rattle.std.proofs.lemmas.List.Folds.{list_all-append, list_all-map}
 use Rattle.std.proofs.Math.Nat.{mul-le-mul_left}
 use Rattle.drc_geom.specs.declared.point.Pt.{Pt}
-use Rattle.gds_placing.specs.declared.place.Place.{Place}
+use Rattle.gds_placing.specs.declared.place.Placement.{Placement}
 use Rattle.gds_placing.specs.declared.copies.Copies.{Copies}
 use Rattle.gds_placing.specs.Places.{magnified, moved, place_of, is_reached, then_of, MayStand}
 use Rattle.gds_placing.specs.Copies.{Cell, cells, origin_of, step_of, MayBeDrawn}
@@ -31,10 +31,10 @@ along_rows copies k n column h =
     (between_moved (magnified column copies.column_pitch) _ _ _ (times_between k n copies.row_pitch h))
 
 -- the origin of a copy is drawn within reach
-abbrev pub IsDrawn : Place → Copies → (column row : ℕ) → Type 0
+abbrev pub IsDrawn : Placement → Copies → (column row : ℕ) → Type 0
 IsDrawn outer copies column row = IsTrue (is_reached (place_of outer (origin_of copies column row)))
 
-pub drawn_corners : (outer : Place) (copies : Copies) (columns rows : ℕ)
+pub drawn_corners : (outer : Placement) (copies : Copies) (columns rows : ℕ)
     → IsDrawn outer copies 0 0 → IsDrawn outer copies columns 0 → IsDrawn outer copies 0 rows
     → IsDrawn outer copies columns rows
     → (column row : ℕ) → column ≤ columns → row ≤ rows → IsDrawn outer copies column row
@@ -102,7 +102,7 @@ all_cells t columns rows e column row h k =
 product_some : (a b : ℕ) → 1 ≤ a → 1 ≤ b → 1 ≤ a * b
 product_some a b h k = let l = mul-le-mul_left a k in omega arith
 
-pub copy_may_stand : (outer : Place) (copies : Copies) (column row : ℕ) → MayStand outer → MayBeDrawn outer copies
+pub copy_may_stand : (outer : Placement) (copies : Copies) (column row : ℕ) → MayStand outer → MayBeDrawn outer copies
     → column < copies.columns → row < copies.rows → MayStand (then_of (step_of copies column row) outer)
 copy_may_stand outer copies column row m d h k = record {
   turned = both_turns_few copies.turn outer.turn;

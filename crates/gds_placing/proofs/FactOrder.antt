@@ -7,7 +7,7 @@ use Rattle.gds_records.specs.declared.fault.LayoutRefusal.{LayoutRefusal}
 use Rattle.gds_records.specs.LayoutKinds.{layout_number}
 use Rattle.gds_library.specs.declared.element.Instance.{Instance}
 use Rattle.gds_library.specs.declared.element.Point.{Point}
-use Rattle.gds_placing.specs.declared.place.Place.{Place}
+use Rattle.gds_placing.specs.declared.place.Placement.{Placement}
 use Rattle.gds_placing.specs.Facts.{Rise, fact_if, facts_of, range_facts, pitch_facts, angle_facts, magnification_facts}
 
 lower : (k l : ℕ) (facts : List LayoutRefusal) → l < k → Rise k facts → Rise l facts
@@ -31,7 +31,7 @@ rise_last : (b : Bool) (at : ℕ) (kind : LayoutKind) (above : ℕ) → above < 
 rise_last true at kind above h = (h, tt)
 rise_last false at kind above h = tt
 
-pub facts_rise : (outer : Place) (instance : Instance) (points : List Point) → Rise 0 (facts_of outer instance points)
+pub facts_rise : (outer : Placement) (instance : Instance) (points : List Point) → Rise 0 (facts_of outer instance points)
 facts_rise outer instance points =
     rise_given _ (λ given. given.at) kinds.AbsoluteFlag instance.transform 0
     (magnification_facts outer instance ++ (angle_facts instance ++ (pitch_facts instance points

@@ -8,7 +8,7 @@ use Rattle.gds_records.specs.declared.real.Real8.{Real8}
 use Rattle.gds_library.specs.declared.element.Given.{Given}
 use Rattle.gds_library.specs.declared.element.Instance.{Instance}
 use Rattle.gds_library.specs.declared.element.Point.{Point}
-use Rattle.gds_placing.specs.declared.place.Place.{Place}
+use Rattle.gds_placing.specs.declared.place.Placement.{Placement}
 use Rattle.gds_placing.specs.declared.copies.Copies.{Copies}
 use Rattle.gds_placing.specs.Places.{is_reached, place_of}
 use Rattle.gds_placing.specs.Copies.{AreNear, MayBeDrawn, copies_of, origin_of, said_magnification, whole_of, times_of, columns_of, rows_of}
@@ -42,10 +42,10 @@ bool_same true b f g = sym (f refl)
 bool_same false true f g = g refl
 bool_same false false f g = refl
 
-is_drawn : Place → Copies → (column row : ℕ) → Bool
+is_drawn : Placement → Copies → (column row : ℕ) → Bool
 is_drawn outer copies column row = is_reached (place_of outer (origin_of copies column row))
 
-pub corners_decide : (outer : Place) (copies : Copies) → 1 ≤ copies.columns → 1 ≤ copies.rows
+pub corners_decide : (outer : Placement) (copies : Copies) → 1 ≤ copies.columns → 1 ≤ copies.rows
     → (is_reached (place_of outer (origin_of copies 0 0))
     && (is_reached (place_of outer (origin_of copies (copies.columns - 1) 0))
     && (is_reached (place_of outer (origin_of copies 0 (copies.rows - 1)))
@@ -89,12 +89,12 @@ magnified_at : (m : ℕ) (given : Option (Given Real8)) → m ≤ 65536
 magnified_at m None h e = omega arith
 magnified_at m (Some given) h e = magnified_if m given.at (option_and_then times_of (whole_of given.value)) e
 
-magnified_allowed : (outer : Place) (instance : Instance) → outer.magnification ≤ 65536
+magnified_allowed : (outer : Placement) (instance : Instance) → outer.magnification ≤ 65536
     → magnification_facts outer instance ≡ []
     → unwrap_or (said_magnification instance) 1 * outer.magnification ≤ 65536
 magnified_allowed outer instance h e = magnified_at outer.magnification instance.magnification h e
 
-origins_reached : (outer : Place) (instance : Instance) (points : List Point) → range_facts outer instance points ≡ []
+origins_reached : (outer : Placement) (instance : Instance) (points : List Point) → range_facts outer instance points ≡ []
     → (column row : ℕ) → column < columns_of instance → row < rows_of instance
     → IsTrue (is_reached (place_of outer (origin_of (copies_of instance points) column row)))
 unfolding is_drawn
@@ -109,7 +109,7 @@ pub record AreRead (copies : Copies) : Type 0 where
   pub turned : copies.turn.quarter < 4
   pub drawn : 1 ≤ copies.magnification
 
-pub may_be_drawn : (outer : Place) (instance : Instance) (points : List Point) (copies : Copies)
+pub may_be_drawn : (outer : Placement) (instance : Instance) (points : List Point) (copies : Copies)
     → copies ≡ copies_of instance points
     → outer.magnification ≤ 65536 → AreRead copies → facts_of outer instance points ≡ [] → MayBeDrawn outer copies
 may_be_drawn outer instance points copies e h read none =

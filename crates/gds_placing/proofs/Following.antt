@@ -3,23 +3,23 @@ use Rattle.std.proofs.Common.{◌≡◌, ℕ, ◌*◌, ℤ, pos, ◌+ℤ◌, ◌
 use Rattle.std.proofs.lemmas.Int.{ints}
 use Rattle.drc_geom.specs.declared.point.Pt.{Pt}
 use Rattle.drc_geom.specs.Turns.{mirrored, turned, apply_of}
-use Rattle.gds_placing.specs.declared.place.Place.{Place}
+use Rattle.gds_placing.specs.declared.place.Placement.{Placement}
 use Rattle.gds_placing.specs.Places.{magnified, moved, place_of, then_of, unmoved}
 use Rattle.gds_placing.proofs.Turning.{both_turns_follow}
 use Rattle.gds_placing.proofs.Linear.{mirrored-moved, turned-moved, magnified-moved, moved-moved, mirrored-magnified, turned-magnified, magnified-magnified}
 
 -- what is magnified at last is magnified before it is turned
-pub magnified_last : (place : Place) (p : Pt)
+pub magnified_last : (place : Placement) (p : Pt)
     → moved place.origin (magnified place.magnification (apply_of place.turn p)) ≡ place_of place p
 magnified_last place p =
     ap (moved place.origin) (sym (turned-magnified place.turn.quarter place.magnification
     (mirrored place.turn.mirror p)))
 
 -- a place, without its move
-unmoved_of : Place → Pt → Pt
+unmoved_of : Placement → Pt → Pt
 unmoved_of place p = turned place.turn.quarter (magnified place.magnification (mirrored place.turn.mirror p))
 
-drawn_moved : (place : Place) (by p : Pt)
+drawn_moved : (place : Placement) (by p : Pt)
     → unmoved_of place (moved by p) ≡ moved (unmoved_of place by) (unmoved_of place p)
 unfolding unmoved_of
 drawn_moved place by p =
@@ -29,17 +29,17 @@ drawn_moved place by p =
     ∙ turned-moved place.turn.quarter (magnified place.magnification (mirrored place.turn.mirror by))
     (magnified place.magnification (mirrored place.turn.mirror p))
 
-drawn_last : (place : Place) (p : Pt) → unmoved_of place p ≡ magnified place.magnification (apply_of place.turn p)
+drawn_last : (place : Placement) (p : Pt) → unmoved_of place p ≡ magnified place.magnification (apply_of place.turn p)
 unfolding unmoved_of
 drawn_last place p = turned-magnified place.turn.quarter place.magnification (mirrored place.turn.mirror p)
 
-apply-magnified : (place : Place) (k : ℕ) (p : Pt)
+apply-magnified : (place : Placement) (k : ℕ) (p : Pt)
     → apply_of place.turn (magnified k p) ≡ magnified k (apply_of place.turn p)
 apply-magnified place k p =
     ap (turned place.turn.quarter) (mirrored-magnified place.turn.mirror k p)
     ∙ turned-magnified place.turn.quarter k (mirrored place.turn.mirror p)
 
-drawn_twice : (inner outer : Place) (p : Pt)
+drawn_twice : (inner outer : Placement) (p : Pt)
     → unmoved_of (then_of inner outer) p ≡ unmoved_of outer (unmoved_of inner p)
 drawn_twice inner outer p =
     drawn_last (then_of inner outer) p
@@ -49,7 +49,7 @@ drawn_twice inner outer p =
     ∙ sym (drawn_last outer (magnified inner.magnification (apply_of inner.turn p)))
     ∙ ap (unmoved_of outer) (sym (drawn_last inner p))
 
-pub places_follow : (inner outer : Place) (p : Pt)
+pub places_follow : (inner outer : Placement) (p : Pt)
     → place_of (then_of inner outer) p ≡ place_of outer (place_of inner p)
 unfolding unmoved_of
 places_follow inner outer p =

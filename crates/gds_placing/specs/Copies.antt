@@ -15,7 +15,7 @@ use Rattle.gds_records.specs.Reals.{magnitude, scale, signed}
 use Rattle.gds_library.specs.declared.element.Point.{Point}
 use Rattle.gds_library.specs.declared.element.Instance.{Instance}
 use Rattle.gds_placing.specs.Places.{magnified, moved, place_of, is_reached, IsNear}
-use Rattle.gds_placing.specs.declared.place.Place.{Place}
+use Rattle.gds_placing.specs.declared.place.Placement.{Placement}
 use Rattle.gds_placing.specs.declared.copies.Copies.{Copies}
 
 -- the whole number that a real is
@@ -108,7 +108,7 @@ origin_of copies column row =
     moved copies.origin (moved (magnified column copies.column_pitch) (magnified row copies.row_pitch))
 
 -- how a copy lies in the structure in which the reference stands
-abbrev pub step_of : Copies → (column row : ℕ) → Place
+abbrev pub step_of : Copies → (column row : ℕ) → Placement
 step_of copies column row =
     record { turn = copies.turn; magnification = copies.magnification; origin = origin_of copies column row }
 
@@ -131,7 +131,7 @@ pub record AreNear (copies : Copies) : Type 0 where
   pub rows : IsNear (2 ^ 32) (magnified copies.rows copies.row_pitch)
 
 -- the copies of a reference may be drawn, where it stands in a structure that is drawn at this place
-pub record MayBeDrawn (outer : Place) (copies : Copies) : Type 0 where
+pub record MayBeDrawn (outer : Placement) (copies : Copies) : Type 0 where
   pub turned : copies.turn.quarter < 4
   pub near : AreNear copies
   pub drawn : 1 ≤ copies.magnification

@@ -9,7 +9,7 @@ use Rattle.gds_records.specs.declared.fault.LayoutRefusal.{LayoutRefusal}
 use Rattle.gds_records.specs.LayoutKinds.{layout_number}
 use Rattle.gds_library.specs.declared.element.Point.{Point}
 use Rattle.gds_library.specs.declared.element.Instance.{Instance}
-use Rattle.gds_placing.specs.declared.place.Place.{Place}
+use Rattle.gds_placing.specs.declared.place.Placement.{Placement}
 use Rattle.gds_placing.specs.declared.copies.Copies.{Copies}
 use Rattle.gds_placing.specs.Places.{place_of, is_reached}
 use Rattle.gds_placing.specs.Copies.{has_flag, absolute, said_magnification, said_quarters, columns_of, rows_of, displacement, copies_of, origin_of, cells}
@@ -24,7 +24,7 @@ flag_facts instance =
     option_map_or (λ given. fact_if (has_flag absolute instance) given.at kinds.AbsoluteFlag) instance.transform []
 
 -- MAG isn't whole from 1 to 65,536, or makes the magnification of the copies greater than 65,536
-abbrev pub magnification_facts : Place → Instance → List LayoutRefusal
+abbrev pub magnification_facts : Placement → Instance → List LayoutRefusal
 magnification_facts outer instance =
     option_map_or
     (λ given.
@@ -56,19 +56,19 @@ pitch_facts instance points =
     instance.counts []
 
 -- the origins of all copies are drawn within -2^30 to 2^30
-abbrev pub are_reached : Place → Copies → Bool
+abbrev pub are_reached : Placement → Copies → Bool
 are_reached outer copies =
     list_all
     (λ cell. is_reached (place_of outer (origin_of copies cell.column cell.row)))
     (cells copies.columns copies.rows)
 
 -- the origin of some copy is drawn outside -2^30 to 2^30
-abbrev pub range_facts : Place → Instance → List Point → List LayoutRefusal
+abbrev pub range_facts : Placement → Instance → List Point → List LayoutRefusal
 range_facts outer instance points =
     fact_if (not (are_reached outer (copies_of instance points))) instance.points_at kinds.CoordinateRange
 
 -- all its facts, by their numbers
-abbrev pub facts_of : Place → Instance → List Point → List LayoutRefusal
+abbrev pub facts_of : Placement → Instance → List Point → List LayoutRefusal
 facts_of outer instance points =
     flag_facts instance
     ++ (magnification_facts outer instance

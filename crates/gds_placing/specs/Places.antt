@@ -7,7 +7,7 @@ use Rattle.std.specs.Prelude.{ℕ, ◌+◌, ◌*◌, ◌%◌, ◌^◌, ◌<◌, 
 use Rattle.drc_geom.specs.declared.point.Pt.{Pt}
 use Rattle.drc_geom.specs.declared.turn.Turn.{Turn}
 use Rattle.drc_geom.specs.Turns.{mirrored, turned}
-use Rattle.gds_placing.specs.declared.place.Place.{Place}
+use Rattle.gds_placing.specs.declared.place.Placement.{Placement}
 
 -- so many times as far from (0, 0)
 abbrev pub magnified : (times : ℕ) → Pt → Pt
@@ -17,12 +17,12 @@ abbrev pub moved : (by p : Pt) → Pt
 moved by p = record { x = by.x +ℤ p.x; y = by.y +ℤ p.y }
 
 -- where a point of the structure is drawn
-abbrev pub place_of : Place → Pt → Pt
+abbrev pub place_of : Placement → Pt → Pt
 place_of place p =
     moved place.origin (turned place.turn.quarter (magnified place.magnification (mirrored place.turn.mirror p)))
 
 -- where a structure is drawn as it stands
-abbrev pub unmoved : Place
+abbrev pub unmoved : Placement
 unmoved = record {
   turn = record { mirror = false; quarter = 0 };
   magnification = 1;
@@ -43,7 +43,7 @@ both_turns inner outer = record {
 }
 
 -- the place of what is drawn at a place in a structure that is itself drawn at a place
-abbrev pub then_of : (inner outer : Place) → Place
+abbrev pub then_of : (inner outer : Placement) → Placement
 then_of inner outer = record {
   turn = both_turns inner.turn outer.turn;
   magnification = inner.magnification * outer.magnification;
@@ -62,7 +62,7 @@ pub record IsNear (bound : ℕ) (p : Pt) : Type 0 where
   pub y : unsigned_abs p.y ≤ bound
 
 -- a structure may be drawn at this place
-pub record MayStand (place : Place) : Type 0 where
+pub record MayStand (place : Placement) : Type 0 where
   pub turned : place.turn.quarter < 4
   pub drawn : 1 ≤ place.magnification
   pub magnified : place.magnification ≤ 65536

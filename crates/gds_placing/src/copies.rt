@@ -5,7 +5,7 @@ ghost use Rattle.drc_geom.specs.Turns.{IsCoordinate, IsPlaced};
 ghost use Rattle.gds_placing.specs.Places.{IsNear, MayStand, magnified, then_of};
 ghost use Rattle.gds_placing.specs.Copies.{AreNear, MayBeDrawn, copies_of, divided, has_flag, origin_of, reflection, said_quarters, step_of};
 
-use crate::Place;
+use crate::Placement;
 use crate::said::{
     REFLECTION, columns, displacement, has_flag, magnification_of, point_at, quarter_of, rows,
 };
@@ -28,7 +28,7 @@ pub struct Copies {
 
 impl Copies {
     /// Where a copy is drawn, where the reference stands in a structure that is drawn at the outer place.
-    pub fn place(&self, outer: &Place, column: u32, row: u32) -> Place
+    pub fn place(&self, outer: &Placement, column: u32, row: u32) -> Placement
         requires outer { MayStand outer.now }
         requires copies { MayBeDrawn outer.now self.now }
         requires column { column < self.now.columns }
@@ -37,7 +37,7 @@ impl Copies {
         ensures allowed { MayStand result }
     {
         let origin = self.origin_at(column, row);
-        let step = Place {
+        let step = Placement {
             turn: self.turn,
             magnification: self.magnification,
             origin,

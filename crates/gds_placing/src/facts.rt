@@ -8,7 +8,7 @@ ghost use Rattle.gds_placing.specs.Facts.{angle_facts, are_multiples, are_reache
 
 use crate::copies::copies_of;
 use crate::said::{ABSOLUTE, columns, displacement, has_flag, magnification, quarters, rows};
-use crate::{Copies, Place};
+use crate::{Copies, Placement};
 use drc_geom::Pt;
 use gds_library::{Instance, Point};
 use gds_records::{LayoutKind, LayoutRefusal};
@@ -21,7 +21,7 @@ const REACH: u64 = 1 << 30;
 /// The copies of a reference, where it stands in a structure that is drawn at the outer place: or the first fact of its
 /// own for which it is refused. Its points are those of its XY.
 pub fn copies_in(
-    outer: &Place,
+    outer: &Placement,
     instance: &Instance,
     points: &[Point],
 ) -> Result<Copies, LayoutRefusal>
@@ -41,7 +41,7 @@ pub fn copies_in(
 
 // The first fact of a reference that has these copies.
 fn fact_of(
-    outer: &Place,
+    outer: &Placement,
     instance: &Instance,
     points: &[Point],
     copies: &Copies,
@@ -91,7 +91,7 @@ fn flag_fact(instance: &Instance) -> Option<LayoutRefusal>
     }
 }
 
-fn magnification_fact(outer: &Place, instance: &Instance) -> Option<LayoutRefusal>
+fn magnification_fact(outer: &Placement, instance: &Instance) -> Option<LayoutRefusal>
     requires { outer.now.magnification ≤ 65536 }
     ensures { option_to_list result ≡ magnification_facts outer.now instance.now }
 {
@@ -106,7 +106,7 @@ fn magnification_fact(outer: &Place, instance: &Instance) -> Option<LayoutRefusa
 }
 
 // Whether MAG says a magnification that is allowed here.
-fn is_magnified(outer: &Place, instance: &Instance) -> bool
+fn is_magnified(outer: &Placement, instance: &Instance) -> bool
     requires { outer.now.magnification ≤ 65536 }
     ensures { result ≡ option_map_or (λ times. nat_le (times * outer.now.magnification) 65536)
         (said_magnification instance.now) false }
@@ -157,7 +157,7 @@ fn is_multiple(p: Pt, of: u32) -> bool
     p.x.unsigned_abs() % u64::from(of) == 0 && p.y.unsigned_abs() % u64::from(of) == 0
 }
 
-fn range_fact(outer: &Place, copies: &Copies, at: u64) -> Option<LayoutRefusal>
+fn range_fact(outer: &Placement, copies: &Copies, at: u64) -> Option<LayoutRefusal>
     requires outer { MayStand outer.now }
     requires near { AreNear copies.now }
     requires some { (1 ≤ copies.now.columns) × (1 ≤ copies.now.rows) }
@@ -168,7 +168,7 @@ fn range_fact(outer: &Place, copies: &Copies, at: u64) -> Option<LayoutRefusal>
 }
 
 // All copies are drawn within reach where those at the four corners of the array are.
-fn are_corners_reached(outer: &Place, copies: &Copies) -> bool
+fn are_corners_reached(outer: &Placement, copies: &Copies) -> bool
     requires outer { MayStand outer.now }
     requires near { AreNear copies.now }
     requires some { (1 ≤ copies.now.columns) × (1 ≤ copies.now.rows) }
@@ -189,7 +189,7 @@ fn all_of(first: bool, second: bool, third: bool, fourth: bool) -> bool
     first && second && third && fourth
 }
 
-fn is_origin_reached(outer: &Place, copies: &Copies, column: u32, row: u32) -> bool
+fn is_origin_reached(outer: &Placement, copies: &Copies, column: u32, row: u32) -> bool
     requires outer { MayStand outer.now }
     requires near { AreNear copies.now }
     requires column { column ≤ copies.now.columns }

@@ -6,7 +6,7 @@ ghost use Rattle.gds_records.specs.declared.real.Real8.{Real8};
 ghost use Rattle.gds_records.specs.Reals.{IsValue};
 ghost use Rattle.gds_library.specs.declared.element.Instance.{Instance};
 ghost use Rattle.gds_library.specs.declared.element.Point.{Point};
-ghost use Rattle.gds_placing.specs.declared.place.Place.{Place};
+ghost use Rattle.gds_placing.specs.declared.place.Placement.{Placement};
 ghost use Rattle.gds_placing.specs.Places.{place_of, then_of, unmoved};
 ghost use Rattle.gds_placing.specs.Copies.{whole_of};
 ghost use Rattle.gds_placing.specs.Facts.{Rise, facts_of};
@@ -14,7 +14,7 @@ ghost use Rattle.gds_placing.specs.Facts.{Rise, facts_of};
 /// What is drawn at a place in a structure that is itself drawn at a place, is drawn as one place after the other says.
 /// Points that are drawn as they stand stay where they are.
 pub fn places_follow()
-    ensures follow { (inner outer : Place) (p : Pt)
+    ensures follow { (inner outer : Placement) (p : Pt)
         → place_of (then_of inner outer) p ≡ place_of outer (place_of inner p) }
     ensures unmoved { (p : Pt) → place_of unmoved p ≡ p }
 {}
@@ -26,6 +26,6 @@ pub fn reals_are_whole()
 
 /// The facts of a reference stand by their numbers, least first.
 pub fn facts_by_number()
-    ensures { (outer : Place) (instance : Instance) (points : List Point)
+    ensures { (outer : Placement) (instance : Instance) (points : List Point)
         → Rise 0 (facts_of outer instance points) }
 {}

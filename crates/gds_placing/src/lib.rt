@@ -16,7 +16,7 @@ mod said;
 pub use copies::Copies;
 pub use facts::copies_in;
 pub use laws::{facts_by_number, places_follow, reals_are_whole};
-pub use place::Place;
+pub use place::Placement;
 
 #[cfg(test)]
 mod tests;

@@ -9,7 +9,7 @@ use drc_geom::{Pt, Turn};
 /// Where a structure is drawn: reflected about the x axis or not, magnified, turned counterclockwise by quarters, and
 /// moved, in this order.
 #[derive(Clone, Copy, Debug, PartialEq, Eq)]
-pub struct Place {
+pub struct Placement {
     /// The reflection and the quarters.
     pub turn: Turn,
     /// How many times as great it is drawn.
@@ -18,12 +18,12 @@ pub struct Place {
     pub origin: Pt,
 }
 
-impl Place {
+impl Placement {
     /// The place of a structure that is drawn as it stands.
-    pub fn unmoved() -> Place
+    pub fn unmoved() -> Placement
         ensures { result ≡ unmoved }
     {
-        Place {
+        Placement {
             turn: Turn {
                 mirror: false,
                 quarter: 0,
@@ -47,13 +47,13 @@ impl Place {
     }
 
     /// The place of what is drawn here in a structure that is itself drawn at the outer place.
-    pub fn then(&self, outer: &Place) -> Place
+    pub fn then(&self, outer: &Placement) -> Placement
         requires outer { MayStand outer.now }
         requires origin { IsPlaced self.now.origin }
         requires magnified { self.now.magnification * outer.now.magnification ≤ 65536 }
         ensures { result ≡ then_of self.now outer.now }
     {
-        Place {
+        Placement {
             turn: self.turn.then(&outer.turn),
             magnification: self.magnification * outer.magnification,
             origin: outer.apply(self.origin),

@@ -4,7 +4,7 @@ ghost use Rattle.std.specs.Prelude.{IfSome};
 ghost use Rattle.drc_geom.specs.Turns.{IsPlaced};
 ghost use Rattle.gds_placing.specs.Places.{MayStand};
 
-use crate::{Place, copies_in};
+use crate::{Placement, copies_in};
 use drc_geom::{Name, Pt};
 use gds_library::{Counts, Given, Instance, Point};
 use gds_records::{LayoutKind, LayoutRefusal, Real8};
@@ -70,12 +70,12 @@ fn point(x: i32, y: i32) -> Point {
 
 // Where a copy is drawn; None where the reference is refused or has no such copy.
 fn copy_of(
-    outer: &Place,
+    outer: &Placement,
     instance: &Instance,
     points: &[Point],
     column: u32,
     row: u32,
-) -> Option<Place>
+) -> Option<Placement>
     requires { MayStand outer.now }
     ensures { IfSome result MayStand }
 {
@@ -90,7 +90,7 @@ fn copy_of(
 }
 
 // Where a point is drawn, which is near enough.
-fn drawn(place: Option<Place>, x: i32, y: i32) -> Option<(i64, i64)>
+fn drawn(place: Option<Placement>, x: i32, y: i32) -> Option<(i64, i64)>
     requires { IfSome place MayStand }
 {
     let p = place?.apply(Pt {
@@ -101,13 +101,13 @@ fn drawn(place: Option<Place>, x: i32, y: i32) -> Option<(i64, i64)>
 }
 
 fn refusal_of(instance: &Instance, points: &[Point]) -> Option<LayoutRefusal> {
-    copies_in(&Place::unmoved(), instance, points).err()
+    copies_in(&Placement::unmoved(), instance, points).err()
 }
 
 #[test]
 fn a_reference_reflects_and_then_turns(rt: HostRuntime) -> Result<(), Fail> {
     let instance = reference(rt.alloc(), Some(-0x8000), None, Some(QUARTER), None)?;
-    let place = copy_of(&Place::unmoved(), &instance, &[point(100, 0)], 0, 0);
+    let place = copy_of(&Placement::unmoved(), &instance, &[point(100, 0)], 0, 0);
     let table = [
         (0, 0, 100, 0),
         (20, 0, 100, 20),
@@ -125,7 +125,7 @@ fn a_reference_reflects_and_then_turns(rt: HostRuntime) -> Result<(), Fail> {
 #[test]
 fn columns_stand_inside_rows(rt: HostRuntime) -> Result<(), Fail> {
     let alloc = rt.alloc();
-    let top = Place::unmoved();
+    let top = Placement::unmoved();
     let row = reference(alloc, None, None, None, Some((2, 1)))?;
     let xy = [point(100, 0), point(160, 0), point(100, 40)];
     assert_eq!(rt; drawn(copy_of(&top, &row, &xy, 0, 0), 0, 0), Some((100, 0)));
@@ -151,7 +151,7 @@ fn one_reference_in_another(rt: HostRuntime) -> Result<(), Fail> {
     let outer = reference(alloc, Some(-0x8000), Some(TWO), Some(QUARTER), None)?;
     let inner = reference(alloc, Some(-0x8000), Some(THREE), Some(BACK), Some((2, 1)))?;
     let xy = [point(10, 20), point(14, 20), point(10, 20)];
-    let Some(place) = copy_of(&Place::unmoved(), &outer, &[point(1000, 0)], 0, 0) else {
+    let Some(place) = copy_of(&Placement::unmoved(), &outer, &[point(1000, 0)], 0, 0) else {
         return Err("refused".into());
     };
     // the copy of column 1 has its origin at (12, 20), which is drawn at (1000 + 2 * 20, 2 * 12)

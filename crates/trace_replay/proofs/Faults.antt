@@ -3,7 +3,7 @@ use Rattle.std.proofs.Common.{◌≡◌, ℕ, ◌+◌, ◌≤◌, ◌⊎◌, inl
 use Rattle.trace_line.specs.declared.line.Line.{Line}
 use Rattle.trace_text.specs.declared.fault.TraceReason.{TraceReason}
 use Rattle.trace_text.specs.declared.fault.TraceReason.TheVariants.{TooLong, Syntax, HeaderMismatch, WrongCharge, NotEnabled, Unfinished}
-use Rattle.trace_text.specs.declared.place.Place.{Place}
+use Rattle.trace_text.specs.declared.place.LinePlace.{LinePlace}
 use Rattle.trace_text.specs.Traces.{Told, text_of, longest_trace}
 use Rattle.trace_text.specs.Fronts.{IsFront, Reaches, EndsAt}
 use Rattle.trace_text.specs.Places.{lines_before, IsReadTo}
@@ -14,7 +14,7 @@ use Rattle.trace_replay.proofs.Standing.{Standing}
 use Rattle.trace_replay.proofs.Offences.{Off, what_offends}
 
 -- a text of which all that is a trace was read
-pub record IsReadText (text : List ℕ) (place : Place) (t : Told) (rest : List ℕ) : Type 0 where
+pub record IsReadText (text : List ℕ) (place : LinePlace) (t : Told) (rest : List ℕ) : Type 0 where
   pub read : IsReadTo place t
   pub reached : Reaches text (lines_before place t) rest
   pub ends : EndsAt (lines_before place t) rest
@@ -22,7 +22,7 @@ pub record IsReadText (text : List ℕ) (place : Place) (t : Told) (rest : List 
 
 -- ---- lines to which the text comes
 
-in_lines : (text : List ℕ) (place : Place) (t : Told) (rest : List ℕ) (before : List Line) (here : Line) → IsReadText text place t rest → ComesTo text before here → Standing (lines_before place t) before here
+in_lines : (text : List ℕ) (place : LinePlace) (t : Told) (rest : List ℕ) (before : List Line) (here : Line) → IsReadText text place t rest → ComesTo text before here → Standing (lines_before place t) before here
 in_lines text place t rest before here r c =
     let ls : List Line = lines_before place t in
     let ks : List Line = before ++ here ∷ [] in
@@ -42,7 +42,7 @@ shorter_front ls before here after e f =
       parts = f.parts ∙ ap (λ x. x ++ f.more) e ∙ append_assoc before (here ∷ after) f.more ∙ sym (append_assoc before (here ∷ []) (after ++ f.more));
     }
 
-pub comes_to : (text : List ℕ) (place : Place) (t : Told) (rest : List ℕ) (before : List Line) (here : Line) → IsReadText text place t rest → Standing (lines_before place t) before here → ComesTo text before here
+pub comes_to : (text : List ℕ) (place : LinePlace) (t : Told) (rest : List ℕ) (before : List Line) (here : Line) → IsReadText text place t rest → Standing (lines_before place t) before here → ComesTo text before here
 comes_to text place t rest before here r s =
     let parted : lines_before place t ≡ (before ++ here ∷ []) ++ s.after = s.parts ∙ sym (append_assoc before (here ∷ []) s.after) in
     record {
@@ -53,24 +53,24 @@ comes_to text place t rest before here r s =
       };
     }
 
-pub offence_at : (terms : Terms) (text : List ℕ) (place : Place) (t : Told) (rest : List ℕ) (before : List Line) (here : Line) (line : ℕ) (reason : TraceReason)
+pub offence_at : (terms : Terms) (text : List ℕ) (place : LinePlace) (t : Told) (rest : List ℕ) (before : List Line) (here : Line) (line : ℕ) (reason : TraceReason)
     → IsReadText text place t rest → Standing (lines_before place t) before here → line ≡ length before + 1 → Offends terms before here reason → IsOffence terms text line reason
 offence_at terms text place t rest before here line reason r s n o = record { before = before; here = here; comes = comes_to text place t rest before here r s; at = n; offends = o }
 
 -- ---- what a fault is
 
 -- a line that was read offends
-pub record ReadOff (terms : Terms) (place : Place) (t : Told) (line : ℕ) (reason : TraceReason) : Type 0 where
+pub record ReadOff (terms : Terms) (place : LinePlace) (t : Told) (line : ℕ) (reason : TraceReason) : Type 0 where
   pub off : Off terms place t line reason
   pub read : line ≤ length (lines_before place t)
 
 -- reading ended at this line
-pub record EndedAt (text : List ℕ) (place : Place) (t : Told) (line : ℕ) (reason : TraceReason) : Type 0 where
+pub record EndedAt (text : List ℕ) (place : LinePlace) (t : Told) (line : ℕ) (reason : TraceReason) : Type 0 where
   pub why : reason ≡ Syntax
   pub at : line ≡ length (lines_before place t) + 1
   pub fault : IsSyntaxFault text line
 
-read_off : (terms : Terms) (text : List ℕ) (place : Place) (t : Told) (rest : List ℕ) (line : ℕ) (reason : TraceReason) → IsReadText text place t rest → IsOffence terms text line reason → ReadOff terms place t line reason
+read_off : (terms : Terms) (text : List ℕ) (place : LinePlace) (t : Told) (rest : List ℕ) (line : ℕ) (reason : TraceReason) → IsReadText text place t rest → IsOffence terms text line reason → ReadOff terms place t line reason
 read_off terms text place t rest line reason r o =
     let s = in_lines text place t rest o.before o.here r o.comes in
     record {
@@ -78,7 +78,7 @@ read_off terms text place t rest line reason r o =
       read = omega (arith, o.at, ap (λ (x : List Line). length x) s.parts, length-append o.before (o.here ∷ s.after));
     }
 
-pub what_fault : (terms : Terms) (text : List ℕ) (place : Place) (t : Told) (rest : List ℕ) (line : ℕ) (reason : TraceReason) → IsReadText text place t rest → IsFault terms text line reason
+pub what_fault : (terms : Terms) (text : List ℕ) (place : LinePlace) (t : Told) (rest : List ℕ) (line : ℕ) (reason : TraceReason) → IsReadText text place t rest → IsFault terms text line reason
     → ReadOff terms place t line reason ⊎ EndedAt text place t line reason
 what_fault terms text place t rest line TooLong r f = absurd (omega (arith, f.1, r.short))
 what_fault terms text place t rest line Syntax r f =

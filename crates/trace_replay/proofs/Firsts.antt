@@ -12,8 +12,8 @@ use Rattle.trace_line.specs.Lines.{line_text, Begins}
 use Rattle.trace_text.specs.declared.fault.TraceReason.{TraceReason}
 use Rattle.trace_text.specs.declared.fault.TraceReason.TheVariants.{TooLong, Syntax, HeaderMismatch, WrongCharge, NotEnabled, Unfinished}
 use Rattle.trace_text.specs.declared.fault.TraceRefusal.{TraceRefusal}
-use Rattle.trace_text.specs.declared.place.Place.{Place}
-use Rattle.trace_text.specs.declared.place.Place.TheVariants.{Nothing}
+use Rattle.trace_text.specs.declared.place.LinePlace.{LinePlace}
+use Rattle.trace_text.specs.declared.place.LinePlace.TheVariants.{Nothing}
 use Rattle.trace_text.specs.Traces.{Told, Spells, longest_trace}
 use Rattle.trace_text.specs.Places.{lines_before}
 use Rattle.trace_text.specs.Refusals.{Terms, IsWrongCharge, IsFault, IsFirstFault, rank}
@@ -32,7 +32,7 @@ abbrev Precedes : ℕ → TraceReason → ℕ → TraceReason → Type 0
 Precedes line reason l r = (line < l) ⊎ ((line ≡ l) × (rank reason ≤ rank r))
 
 -- what comes no later than a line that offends and than the end of reading is the first
-first_of_read : (terms : Terms) (text : List ℕ) (place : Place) (t : Told) (rest : List ℕ) (line : ℕ) (reason : TraceReason) → IsReadText text place t rest → IsFault terms text line reason
+first_of_read : (terms : Terms) (text : List ℕ) (place : LinePlace) (t : Told) (rest : List ℕ) (line : ℕ) (reason : TraceReason) → IsReadText text place t rest → IsFault terms text line reason
     → ((l : ℕ) (r : TraceReason) → ReadOff terms place t l r → Precedes line reason l r) → ((l : ℕ) (r : TraceReason) → EndedAt text place t l r → Precedes line reason l r)
     → IsFirstFault terms text (record { line = line; reason = reason })
 first_of_read terms text place t rest line reason r f off ended =
@@ -46,7 +46,7 @@ first_of_read terms text place t rest line reason r f off ended =
 
 -- ---- a number of the header
 
-header_first : (terms : Terms) (place : Place) (t : Told) (line l : ℕ) (r : TraceReason) → IsOffAt terms (length (lines_before place t)) t line → ReadOff terms place t l r → Precedes line HeaderMismatch l r
+header_first : (terms : Terms) (place : LinePlace) (t : Told) (line l : ℕ) (r : TraceReason) → IsOffAt terms (length (lines_before place t)) t line → ReadOff terms place t l r → Precedes line HeaderMismatch l r
 header_first terms place t line l r o f = elim f.off [
   | inl h ↦ elim h.number [
     | inl a ↦ elim (cases_lt 2 line) [
@@ -73,7 +73,7 @@ header_first terms place t line l r o f = elim f.off [
   ]
 ]
 
-header_fault : (terms : Terms) (text : List ℕ) (place : Place) (t : Told) (rest : List ℕ) (line : ℕ) → IsReadText text place t rest → IsOffAt terms (length (lines_before place t)) t line → IsFault terms text line HeaderMismatch
+header_fault : (terms : Terms) (text : List ℕ) (place : LinePlace) (t : Told) (rest : List ℕ) (line : ℕ) → IsReadText text place t rest → IsOffAt terms (length (lines_before place t)) t line → IsFault terms text line HeaderMismatch
 header_fault terms text place t rest line r o = elim (cases_lt line 3) [
   | inl lt ↦ offence_at terms text place t rest _ (lines.Operations t.operations) line HeaderMismatch r (operations_stand place t (omega (arith, o.read, o.low))) (omega (arith, lt, o.low)) (o.operations (omega (arith, lt, o.low)))
   | inr ge ↦ elim (cases_lt line 4) [
@@ -82,14 +82,14 @@ header_fault terms text place t rest line r o = elim (cases_lt line 3) [
   ]
 ]
 
-pub first_mismatch : (terms : Terms) (text : List ℕ) (place : Place) (t : Told) (rest : List ℕ) (line : ℕ) → IsReadText text place t rest → IsOffAt terms (length (lines_before place t)) t line
+pub first_mismatch : (terms : Terms) (text : List ℕ) (place : LinePlace) (t : Told) (rest : List ℕ) (line : ℕ) → IsReadText text place t rest → IsOffAt terms (length (lines_before place t)) t line
     → IsFirstFault terms text (record { line = line; reason = HeaderMismatch })
 first_mismatch terms text place t rest line r o =
     first_of_read terms text place t rest line HeaderMismatch r (header_fault terms text place t rest line r o) (λ l q f. header_first terms place t line l q o f) (λ l q f. inl (omega (arith, f.at, o.read)))
 
 -- ---- where the header is right
 
-header_right : (terms : Terms) (place : Place) (t : Told) (l : ℕ) (r : TraceReason) → HeaderFits terms (length (lines_before place t)) t → HeaderOff terms t l r → l ≤ length (lines_before place t) → ⊥
+header_right : (terms : Terms) (place : LinePlace) (t : Told) (l : ℕ) (r : TraceReason) → HeaderFits terms (length (lines_before place t)) t → HeaderOff terms t l r → l ≤ length (lines_before place t) → ⊥
 header_right terms place t l r f h read = elim h.number [
   | inl a ↦ a.1 (f.operations (omega (arith, read, a.0)))
   | inr q ↦ elim q [
@@ -132,7 +132,7 @@ step_how terms t es e Syntax r b o = absurd b
 step_how terms t es e HeaderMismatch r b o = absurd b
 step_how terms t es e Unfinished r b o = absurd b
 
-step_first : (terms : Terms) (place : Place) (t : Told) (index : ℕ) (line : ℕ) (reason : TraceReason) (l : ℕ) (r : TraceReason)
+step_first : (terms : Terms) (place : LinePlace) (t : Told) (index : ℕ) (line : ℕ) (reason : TraceReason) (l : ℕ) (r : TraceReason)
     → HeaderFits terms (length (lines_before place t)) t → StopsAt (run_of terms t) t.costs t.events index reason → line ≡ 5 + length t.costs + index → ReadOff terms place t l r → Precedes line reason l r
 step_first terms place t index line reason l r h s n f = elim f.off [
   | inl o ↦ absurd (header_right terms place t l r h o f.read)
@@ -151,7 +151,7 @@ step_first terms place t index line reason l r h s n f = elim f.off [
   ]
 ]
 
-step_fault : (terms : Terms) (text : List ℕ) (place : Place) (t : Told) (rest : List ℕ) (index line : ℕ) (reason : TraceReason) → IsReadText text place t rest
+step_fault : (terms : Terms) (text : List ℕ) (place : LinePlace) (t : Told) (rest : List ℕ) (index line : ℕ) (reason : TraceReason) → IsReadText text place t rest
     → StopsAt (run_of terms t) t.costs t.events index reason → line ≡ 5 + length t.costs + index → IsFault terms text line reason
 step_fault terms text place t rest index line reason r s n =
     by_reason reason s.barred
@@ -169,7 +169,7 @@ step_fault terms text place t rest index line reason r s n =
     by_reason HeaderMismatch b = absurd b
     by_reason Unfinished b = absurd b
 
-pub first_barred : (terms : Terms) (text : List ℕ) (place : Place) (t : Told) (rest : List ℕ) (index line : ℕ) (reason : TraceReason) → IsReadText text place t rest
+pub first_barred : (terms : Terms) (text : List ℕ) (place : LinePlace) (t : Told) (rest : List ℕ) (index line : ℕ) (reason : TraceReason) → IsReadText text place t rest
     → HeaderFits terms (length (lines_before place t)) t → StopsAt (run_of terms t) t.costs t.events index reason → line ≡ 5 + length t.costs + index
     → IsFirstFault terms text (record { line = line; reason = reason })
 first_barred terms text place t rest index line reason r h s n =
@@ -200,7 +200,7 @@ first_unfinished terms text t rest line r h legal unfinished n =
     ])
     (λ l q f. inl (omega (arith, n, f.at)))
 
-pub first_syntax : (terms : Terms) (text : List ℕ) (place : Place) (t : Told) (rest : List ℕ) (line : ℕ) → IsReadText text place t rest → HeaderFits terms (length (lines_before place t)) t
+pub first_syntax : (terms : Terms) (text : List ℕ) (place : LinePlace) (t : Told) (rest : List ℕ) (line : ℕ) → IsReadText text place t rest → HeaderFits terms (length (lines_before place t)) t
     → Legal (run_of terms t) (past_of t.events) → (place ≡ Nothing → IsComplete (run_of terms t) (past_of t.events)) → IsFault terms text line Syntax → line ≡ length (lines_before place t) + 1
     → IsFirstFault terms text (record { line = line; reason = Syntax })
 first_syntax terms text place t rest line r h legal complete fault n =

@@ -15,7 +15,7 @@ use Rattle.trace_text.specs.declared.fault.TraceReason.TheVariants.{TooLong, Syn
 use Rattle.trace_text.specs.declared.fault.TraceFault.{TraceFault}
 use Rattle.trace_text.specs.declared.fault.TraceFault.TheVariants.{Refused, Memory}
 use Rattle.trace_text.specs.declared.front.Front.{Front}
-use Rattle.trace_text.specs.declared.place.Place.TheVariants.{Nothing}
+use Rattle.trace_text.specs.declared.place.LinePlace.TheVariants.{Nothing}
 use Rattle.trace_text.specs.Traces.{Told, told, longest_trace}
 use Rattle.trace_text.specs.FrontOf.{IsFrontOf}
 use Rattle.trace_text.specs.Places.{lines_before}

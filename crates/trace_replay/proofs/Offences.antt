@@ -7,8 +7,8 @@ use Rattle.trace_line.specs.declared.line.Line.{Line}
 use Rattle.trace_line.specs.declared.line.Line.TheVariants as lines
 use Rattle.trace_text.specs.declared.fault.TraceReason.{TraceReason}
 use Rattle.trace_text.specs.declared.fault.TraceReason.TheVariants.{HeaderMismatch, Unfinished}
-use Rattle.trace_text.specs.declared.place.Place.{Place}
-use Rattle.trace_text.specs.declared.place.Place.TheVariants.{Title, Operations, Workers, Budget, Costs, Events, Nothing}
+use Rattle.trace_text.specs.declared.place.LinePlace.{LinePlace}
+use Rattle.trace_text.specs.declared.place.LinePlace.TheVariants.{Title, Operations, Workers, Budget, Costs, Events, Nothing}
 use Rattle.trace_text.specs.Traces.{Told, cost_lines}
 use Rattle.trace_text.specs.Places.{lines_before}
 use Rattle.trace_text.specs.Refusals.{Terms, Differs, Offends}
@@ -35,13 +35,13 @@ pub record StepOff (terms : Terms) (t : Told) (line : ℕ) (reason : TraceReason
   pub how : StepOffends terms t before event reason
 
 -- the end is
-pub record EndOff (terms : Terms) (place : Place) (t : Told) (line : ℕ) (reason : TraceReason) : Type 0 where
+pub record EndOff (terms : Terms) (place : LinePlace) (t : Told) (line : ℕ) (reason : TraceReason) : Type 0 where
   pub ended : place ≡ Nothing
   pub at : line ≡ 5 + length t.costs + length t.events
   pub why : reason ≡ Unfinished
   pub open_end : IsComplete (run_of terms t) (past_of t.events) → ⊥
 
-abbrev pub Off : Terms → Place → Told → ℕ → TraceReason → Type 0
+abbrev pub Off : Terms → LinePlace → Told → ℕ → TraceReason → Type 0
 Off terms place t line reason = HeaderOff terms t line reason ⊎ (StepOff terms t line reason ⊎ EndOff terms place t line reason)
 
 -- ---- the parts of the lines
@@ -162,7 +162,7 @@ at_end terms t before here after line reason p o = elim (peel lines.End [] p.mor
 
 -- ---- what offends in what was read
 
-offence : (place : Place) (terms : Terms) (t : Told) (before : List Line) (here : Line) (after : List Line) (line : ℕ) (reason : TraceReason)
+offence : (place : LinePlace) (terms : Terms) (t : Told) (before : List Line) (here : Line) (after : List Line) (line : ℕ) (reason : TraceReason)
     → lines_before place t ≡ before ++ here ∷ after → Offending terms before here line reason → Off terms place t line reason
 offence Title terms t before here after line reason e o = absurd (no_place before here after e)
 offence Operations terms t before here after line reason e o =
@@ -196,6 +196,6 @@ offence Nothing terms t before here after line reason e o = elim (past_steps ter
   ]
 ]
 
-pub what_offends : (place : Place) (terms : Terms) (t : Told) (before : List Line) (here : Line) (after : List Line) (line : ℕ) (reason : TraceReason)
+pub what_offends : (place : LinePlace) (terms : Terms) (t : Told) (before : List Line) (here : Line) (after : List Line) (line : ℕ) (reason : TraceReason)
     → lines_before place t ≡ before ++ here ∷ after → line ≡ length before + 1 → Offends terms before here reason → Off terms place t line reason
 what_offends place terms t before here after line reason e n o = offence place terms t before here after line reason e (record { at = n; offends = o })

@@ -7,8 +7,8 @@ use Rattle.ledger_history.specs.Enabled.{Enabled, Legal}
 use Rattle.ledger_record.specs.Records.{past_of}
 use Rattle.trace_line.specs.declared.line.Line.{Line}
 use Rattle.trace_line.specs.declared.line.Line.TheVariants as lines
-use Rattle.trace_text.specs.declared.place.Place.{Place}
-use Rattle.trace_text.specs.declared.place.Place.TheVariants.{Title, Operations, Workers, Budget, Costs, Events, Nothing}
+use Rattle.trace_text.specs.declared.place.LinePlace.{LinePlace}
+use Rattle.trace_text.specs.declared.place.LinePlace.TheVariants.{Title, Operations, Workers, Budget, Costs, Events, Nothing}
 use Rattle.trace_text.specs.Traces.{Told, cost_lines}
 use Rattle.trace_text.specs.Places.{lines_before, IsReadTo}
 use Rattle.trace_text.proofs.LineLists.{map_step-append}
@@ -21,7 +21,7 @@ pub record Standing (ls before : List Line) (here : Line) : Type 0 where
 
 -- ---- the header
 
-pub operations_stand : (place : Place) (t : Told) → 2 ≤ length (lines_before place t) → Standing (lines_before place t) (lines.Title ∷ []) (lines.Operations t.operations)
+pub operations_stand : (place : LinePlace) (t : Told) → 2 ≤ length (lines_before place t) → Standing (lines_before place t) (lines.Title ∷ []) (lines.Operations t.operations)
 operations_stand Title t h = absurd (omega arith)
 operations_stand Operations t h = absurd (omega arith)
 operations_stand Workers t h = record { after = []; parts = refl }
@@ -30,7 +30,7 @@ operations_stand Costs t h = record { after = lines.Workers t.workers ∷ lines.
 operations_stand Events t h = record { after = lines.Workers t.workers ∷ lines.Budget t.budget ∷ (cost_lines 0 t.costs ++ map lines.Step t.events); parts = refl }
 operations_stand Nothing t h = record { after = lines.Workers t.workers ∷ lines.Budget t.budget ∷ (cost_lines 0 t.costs ++ (map lines.Step t.events ++ (lines.End ∷ []))); parts = refl }
 
-pub workers_stand : (place : Place) (t : Told) → 3 ≤ length (lines_before place t) → Standing (lines_before place t) (lines.Title ∷ lines.Operations t.operations ∷ []) (lines.Workers t.workers)
+pub workers_stand : (place : LinePlace) (t : Told) → 3 ≤ length (lines_before place t) → Standing (lines_before place t) (lines.Title ∷ lines.Operations t.operations ∷ []) (lines.Workers t.workers)
 workers_stand Title t h = absurd (omega arith)
 workers_stand Operations t h = absurd (omega arith)
 workers_stand Workers t h = absurd (omega arith)
@@ -39,7 +39,7 @@ workers_stand Costs t h = record { after = lines.Budget t.budget ∷ cost_lines 
 workers_stand Events t h = record { after = lines.Budget t.budget ∷ (cost_lines 0 t.costs ++ map lines.Step t.events); parts = refl }
 workers_stand Nothing t h = record { after = lines.Budget t.budget ∷ (cost_lines 0 t.costs ++ (map lines.Step t.events ++ (lines.End ∷ []))); parts = refl }
 
-pub budget_stands : (place : Place) (t : Told) → 4 ≤ length (lines_before place t) → Standing (lines_before place t) (lines.Title ∷ lines.Operations t.operations ∷ lines.Workers t.workers ∷ []) (lines.Budget t.budget)
+pub budget_stands : (place : LinePlace) (t : Told) → 4 ≤ length (lines_before place t) → Standing (lines_before place t) (lines.Title ∷ lines.Operations t.operations ∷ lines.Workers t.workers ∷ []) (lines.Budget t.budget)
 budget_stands Title t h = absurd (omega arith)
 budget_stands Operations t h = absurd (omega arith)
 budget_stands Workers t h = absurd (omega arith)
@@ -65,7 +65,7 @@ regrouped : (t : Told) (cs bs tail xs : List Line) (x : Line) → header_of t (c
 regrouped t cs bs tail xs x =
     ap (header_of t) (ap (λ z. cs ++ z) (append_assoc bs (x ∷ xs) tail) ∙ sym (append_assoc cs bs (x ∷ (xs ++ tail))))
 
-pub step_stands : (place : Place) (t : Told) (before : List Event) (e : Event) (after : List Event) → IsReadTo place t → t.events ≡ before ++ e ∷ after → Standing (lines_before place t) (lines_to t before) (lines.Step e)
+pub step_stands : (place : LinePlace) (t : Told) (before : List Event) (e : Event) (after : List Event) → IsReadTo place t → t.events ≡ before ++ e ∷ after → Standing (lines_before place t) (lines_to t before) (lines.Step e)
 step_stands Title t before e after r p = absurd (no_event before e after t.events r.counts.1 p)
 step_stands Operations t before e after r p = absurd (no_event before e after t.events r.counts.1 p)
 step_stands Workers t before e after r p = absurd (no_event before e after t.events r.counts.1 p)

@@ -11,7 +11,9 @@ use crate::summary::Summary;
 use layer_model::Wiring;
 use ledger_table::Table;
 use std::alloc::Global;
-use trace_text::{Front, LONGEST_TRACE, Place, TraceFault, TraceReason, TraceRefusal, read_front};
+use trace_text::{
+    Front, LONGEST_TRACE, LinePlace, TraceFault, TraceReason, TraceRefusal, read_front,
+};
 
 /// What the run came to whose trace the text is: one of the wiring, of 1 to 64 workers, and of this many workers and this
 /// budget where they are given; each of its events was allowed, and every operation is finished at its end. Else the
@@ -54,7 +56,7 @@ fn conclude(front: &Front<'_>, is_complete: bool, peak: u128) -> Result<Summary,
     requires { front.now.lines ≤ 4194304 }
     ensures { Concludes front.now is_complete peak result }
 {
-    if front.place != Place::Nothing {
+    if front.place != LinePlace::Nothing {
         return Err(refused(front.lines + 1, TraceReason::Syntax));
     }
     if !is_complete {

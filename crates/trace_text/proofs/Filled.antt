@@ -2,8 +2,8 @@
 use Rattle.std.proofs.Common.{◌≡◌, ℕ, zero, suc, ◌+◌, ◌-◌, ◌<◌, ◌^◌, List, [], ◌∷◌, ◌++◌, length, map, refl, sym, ap, ◌∙◌, append_assoc, append-nil, length-append, arith}
 use Rattle.std.specs.List.{AllByRecursion}
 use Rattle.trace_line.specs.declared.line.Line.TheVariants as lines
-use Rattle.trace_text.specs.declared.place.Place.{Place}
-use Rattle.trace_text.specs.declared.place.Place.TheVariants.{Title, Operations, Workers, Budget, Costs, Events, Nothing}
+use Rattle.trace_text.specs.declared.place.LinePlace.{LinePlace}
+use Rattle.trace_text.specs.declared.place.LinePlace.TheVariants.{Title, Operations, Workers, Budget, Costs, Events, Nothing}
 use Rattle.trace_text.specs.Traces.{Told, IsTrace, cost_lines, lines_of}
 use Rattle.trace_text.specs.Fronts.{IsFront}
 use Rattle.trace_text.specs.Places.{lines_before, IsReadTo}
@@ -40,7 +40,7 @@ filled_is_trace n w b costs p q r h s =
       events = tt;
     }
 
-pub front_of_place : (place : Place) (t : Told) → IsReadTo place t → IsFront (lines_before place t)
+pub front_of_place : (place : LinePlace) (t : Told) → IsReadTo place t → IsFront (lines_before place t)
 unfolding filled
 front_of_place Title t r =
     record { of = filled 0 0 0 []; trace = filled_is_trace 0 0 0 [] (omega arith) (omega arith) (omega arith) (omega arith) tt; more = lines_of (filled 0 0 0 []); parts = refl }

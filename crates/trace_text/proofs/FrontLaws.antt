@@ -5,8 +5,8 @@ use mathlib.Core.Bool.{true≢false}
 use Rattle.trace_line.proofs.LineLaws.{one_line}
 use Rattle.trace_line.specs.declared.line.Line.{Line}
 use Rattle.trace_line.specs.Lines.{line_text, IsLine, Begins}
-use Rattle.trace_text.specs.declared.place.Place.{Place}
-use Rattle.trace_text.specs.declared.place.Place.TheVariants.{Nothing}
+use Rattle.trace_text.specs.declared.place.LinePlace.{LinePlace}
+use Rattle.trace_text.specs.declared.place.LinePlace.TheVariants.{Nothing}
 use Rattle.trace_text.specs.Traces.{Told, told, IsTrace, Spells, lines_of, text_of}
 use Rattle.trace_text.specs.Fronts.{IsFront, Reaches, EndsAt}
 use Rattle.trace_text.specs.Places.{lines_before, IsReadTo}
@@ -22,7 +22,7 @@ use Rattle.trace_text.proofs.Stuck.{next_is_admitted, whole_at_nothing}
 
 -- ---- reading
 
-pub reads_on : (text : List ℕ) (place : Place) (t : Told) (rest : List ℕ) (count : ℕ) (l : Line) (behind : List ℕ)
+pub reads_on : (text : List ℕ) (place : LinePlace) (t : Told) (rest : List ℕ) (count : ℕ) (l : Line) (behind : List ℕ)
     → IsReading text place t rest count → Begins rest l behind → admits place (length t.costs) l ≡ true
     → IsReading text (place_behind place l (with_line t l)) (with_line t l) behind (count + 1)
 reads_on text place t rest count l behind r b a =
@@ -36,12 +36,12 @@ reads_on text place t rest count l behind r b a =
       few = omega (arith, r.few, some, split);
     }
 
-pub ends_here : (place : Place) (t : Told) (rest : List ℕ) → IsReadTo place t
+pub ends_here : (place : LinePlace) (t : Told) (rest : List ℕ) → IsReadTo place t
     → ((l : Line) (behind : List ℕ) → Begins rest l behind → admits place (length t.costs) l ≡ true → ⊥) → EndsAt (lines_before place t) rest
 ends_here place t rest r none l behind b f = none l behind b (next_is_admitted place t l r f)
 
 -- the line that begins a text isn't admitted, so none is
-pub not_admitted : (place : Place) (count : ℕ) (text : List ℕ) (k l : Line) (a b : List ℕ) → Begins text k a → admits place count k ≡ false → Begins text l b → admits place count l ≡ true → ⊥
+pub not_admitted : (place : LinePlace) (count : ℕ) (text : List ℕ) (k l : Line) (a b : List ℕ) → Begins text k a → admits place count k ≡ false → Begins text l b → admits place count l ≡ true → ⊥
 not_admitted place count text k l a b p n q y =
     true≢false (sym y ∙ ap (λ x. admits place count x) (sym (one_line text k l a b p q).0) ∙ n)
 
@@ -87,7 +87,7 @@ pub reaches_end : (text : List ℕ) (t : Told) → Spells text t → Reaches tex
 reaches_end text t s = record { front = front_of_whole t s.trace; parts = s.same ∙ sym (append-nil (text_of (lines_of t))) }
 
 -- where the text of a trace goes as far as it can, it is read to its end
-pub spelled_to_end : (text : List ℕ) (place : Place) (t u : Told) (rest : List ℕ) → IsReadTo place t → Reaches text (lines_before place t) rest → EndsAt (lines_before place t) rest → Spells text u
+pub spelled_to_end : (text : List ℕ) (place : LinePlace) (t u : Told) (rest : List ℕ) → IsReadTo place t → Reaches text (lines_before place t) rest → EndsAt (lines_before place t) rest → Spells text u
     → (place ≡ Nothing) × (rest ≡ [])
 spelled_to_end text place t u rest r s h p =
     let w = reaches_end text u p in
@@ -135,7 +135,7 @@ one_trace text t u p q =
 
 -- ---- what the code has
 
-pub reads_kept : (text : List ℕ) (place : Place) (t : Told) (rest : List ℕ) (count : ℕ) (l : Line) (behind : List ℕ) (n : ℕ) (u : Told) (next : Place)
+pub reads_kept : (text : List ℕ) (place : LinePlace) (t : Told) (rest : List ℕ) (count : ℕ) (l : Line) (behind : List ℕ) (n : ℕ) (u : Told) (next : LinePlace)
     → IsReading text place t rest count → Begins rest l behind → n ≡ length t.costs → admits place n l ≡ true → u ≡ with_line t l → next ≡ place_behind place l u
     → IsReading text next u behind (count + 1)
 reads_kept text place t rest count l behind n u next r b e a k p =

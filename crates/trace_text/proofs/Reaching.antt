@@ -5,8 +5,8 @@ use Rattle.trace_line.specs.declared.line.Line.{Line}
 use Rattle.trace_line.specs.Lines.{Begins}
 use Rattle.trace_line.specs.Working.Reading.{line_at}
 use Rattle.trace_line.proofs.LineLaws.{line_takes, begun_again}
-use Rattle.trace_text.specs.declared.place.Place.{Place}
-use Rattle.trace_text.specs.declared.place.Place.TheVariants.{Title, Operations, Workers, Budget, Costs, Events, Nothing}
+use Rattle.trace_text.specs.declared.place.LinePlace.{LinePlace}
+use Rattle.trace_text.specs.declared.place.LinePlace.TheVariants.{Title, Operations, Workers, Budget, Costs, Events, Nothing}
 use Rattle.trace_text.specs.Traces.{Told, Spells}
 use Rattle.trace_text.specs.Fronts.{Reaches, EndsAt}
 use Rattle.trace_text.specs.Places.{lines_before, IsReadTo}
@@ -17,7 +17,7 @@ use Rattle.trace_text.proofs.FrontLaws.{reads_on, ends_here, not_admitted, short
 
 -- the first lines of the text, behind which none goes on
 record IsRead (text : List ℕ) : Type 0 where
-  place : Place
+  place : LinePlace
   told : Told
   rest : List ℕ
   count : ℕ
@@ -28,7 +28,7 @@ line_is : {X : Type 0} (o : Option X) (x : X) → o ≡ None → o ≡ Some x �
 line_is o x p q = let e : None ≡ Some x = sym p ∙ q in cc
 
 -- it goes on with the line that stands there, or ends
-reads_or_ends : (text : List ℕ) (place : Place) (t : Told) (rest : List ℕ) (count : ℕ) → IsReading text place t rest count
+reads_or_ends : (text : List ℕ) (place : LinePlace) (t : Told) (rest : List ℕ) (count : ℕ) → IsReading text place t rest count
     → ((l : Line) (behind : List ℕ) → Begins rest l behind → admits place (length t.costs) l ≡ true → IsRead text) → IsRead text
 reads_or_ends text place t rest count r go = by_line (line_at rest) refl
   where
@@ -44,7 +44,7 @@ reads_or_ends text place t rest count r go = by_line (line_at rest) refl
           | inr a ↦ stop (λ k more p y. not_admitted place (length t.costs) rest l k behind more q a p y)
         ]
 
-reads_to_end : (most : ℕ) (text : List ℕ) (place : Place) (t : Told) (rest : List ℕ) (count : ℕ) → length rest ≤ most → IsReading text place t rest count → IsRead text
+reads_to_end : (most : ℕ) (text : List ℕ) (place : LinePlace) (t : Told) (rest : List ℕ) (count : ℕ) → length rest ≤ most → IsReading text place t rest count → IsRead text
 reads_to_end zero text place t rest count b r =
     reads_or_ends text place t rest count r (λ l behind q a. absurd (let s = shorter rest l behind q in omega arith))
 reads_to_end (suc n) text place t rest count b r =
@@ -62,7 +62,7 @@ reads_first text =
     }
 
 -- whether all was read
-whole_or_not : (place : Place) (rest : List ℕ) → ((place ≡ Nothing) × (rest ≡ [])) ⊎ ((place ≡ Nothing) × (rest ≡ []) → ⊥)
+whole_or_not : (place : LinePlace) (rest : List ℕ) → ((place ≡ Nothing) × (rest ≡ [])) ⊎ ((place ≡ Nothing) × (rest ≡ []) → ⊥)
 whole_or_not Nothing [] = inl (refl, refl)
 whole_or_not Nothing (x ∷ xs) = inr (λ q. let e : x ∷ xs ≡ [] = q.1 in cc)
 whole_or_not Title rest = inr (λ q. let e : Title ≡ Nothing = q.0 in cc)

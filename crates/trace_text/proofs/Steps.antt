@@ -5,15 +5,15 @@ use Rattle.std.proofs.lemmas.Bool.{ltb-true, ltb-false, eqb-true}
 use Rattle.trace_line.specs.declared.line.Line.{Line}
 use Rattle.trace_line.specs.declared.line.Line.TheVariants as lines
 use Rattle.trace_line.specs.Lines.{IsLine, HasText}
-use Rattle.trace_text.specs.declared.place.Place.{Place}
-use Rattle.trace_text.specs.declared.place.Place.TheVariants.{Title, Operations, Workers, Budget, Costs, Events}
+use Rattle.trace_text.specs.declared.place.LinePlace.{LinePlace}
+use Rattle.trace_text.specs.declared.place.LinePlace.TheVariants.{Title, Operations, Workers, Budget, Costs, Events}
 use Rattle.trace_text.specs.Traces.{Told, cost_lines}
 use Rattle.trace_text.specs.Places.{lines_before, IsReadTo}
 use Rattle.trace_text.specs.Working.Places.{admits, with_line, costs_or_events, place_behind}
 use Rattle.trace_text.proofs.LineLists.{all_append, cost_lines-append, map_step-append}
 
 -- the lines up to the next place are those before and this one
-pub record Follows (place : Place) (t : Told) (next : Place) (u : Told) (l : Line) : Type 0 where
+pub record Follows (place : LinePlace) (t : Told) (next : LinePlace) (u : Told) (l : Line) : Type 0 where
   pub read : IsReadTo next u
   pub lines : lines_before next u ≡ lines_before place t ++ l ∷ []
 
@@ -46,7 +46,7 @@ read_by false t e a = (
 read_costs : (t : Told) → AtCosts t → IsReadTo (costs_or_events (length t.costs) t.operations) t × (lines_before (costs_or_events (length t.costs) t.operations) t ≡ header_and t (cost_lines 0 t.costs))
 read_costs t a = read_by (ltb (length t.costs) t.operations) t refl a
 
-pub follows : (place : Place) (t : Told) (l : Line) → IsReadTo place t → IsLine l → admits place (length t.costs) l ≡ true → Follows place t (place_behind place l (with_line t l)) (with_line t l) l
+pub follows : (place : LinePlace) (t : Told) (l : Line) → IsReadTo place t → IsLine l → admits place (length t.costs) l ≡ true → Follows place t (place_behind place l (with_line t l)) (with_line t l) l
 follows Title t lines.Title r h a = record { read = record { operations = r.operations; workers = r.workers; budget = r.budget; costs = r.costs; events = r.events; counts = r.counts }; lines = refl }
 follows Operations t (lines.Operations n) r h a = record { read = record { operations = h; workers = r.workers; budget = r.budget; costs = r.costs; events = r.events; counts = r.counts }; lines = refl }
 follows Workers t (lines.Workers n) r h a = record { read = record { operations = r.operations; workers = h; budget = r.budget; costs = r.costs; events = r.events; counts = r.counts }; lines = refl }

@@ -4,8 +4,8 @@ use Rattle.std.proofs.lemmas.Bool.{eq-eqb}
 use Rattle.ledger_history.specs.declared.event.Event.{Event}
 use Rattle.trace_line.specs.declared.line.Line.{Line}
 use Rattle.trace_line.specs.declared.line.Line.TheVariants as lines
-use Rattle.trace_text.specs.declared.place.Place.{Place}
-use Rattle.trace_text.specs.declared.place.Place.TheVariants.{Title, Operations, Workers, Budget, Costs, Events, Nothing}
+use Rattle.trace_text.specs.declared.place.LinePlace.{LinePlace}
+use Rattle.trace_text.specs.declared.place.LinePlace.TheVariants.{Title, Operations, Workers, Budget, Costs, Events, Nothing}
 use Rattle.trace_text.specs.Traces.{Told, IsTrace, cost_lines, lines_of}
 use Rattle.trace_text.specs.Fronts.{IsFront}
 use Rattle.trace_text.specs.Places.{lines_before, IsReadTo}
@@ -43,7 +43,7 @@ regroup xs ys zs more = simp append_assoc
 regroup_end : (xs ys zs us more : List Line) → ((xs ++ (ys ++ us)) ++ zs) ++ more ≡ xs ++ (ys ++ (us ++ (zs ++ more)))
 regroup_end xs ys zs us more = simp append_assoc
 
-pub next_is_admitted : (place : Place) (t : Told) (l : Line) → IsReadTo place t → IsFront (lines_before place t ++ l ∷ []) → admits place (length t.costs) l ≡ true
+pub next_is_admitted : (place : LinePlace) (t : Told) (l : Line) → IsReadTo place t → IsFront (lines_before place t ++ l ∷ []) → admits place (length t.costs) l ≡ true
 next_is_admitted Title t l r f =
     let e : lines_of f.of ≡ l ∷ f.more = f.parts in
     let h : lines.Title ≡ l = cc in
@@ -80,7 +80,7 @@ next_is_admitted Nothing t l r f =
 
 -- ---- the whole
 
-pub whole_at_nothing : (place : Place) (t u : Told) → IsReadTo place t → IsTrace u → lines_of u ≡ lines_before place t → place ≡ Nothing
+pub whole_at_nothing : (place : LinePlace) (t u : Told) → IsReadTo place t → IsTrace u → lines_of u ≡ lines_before place t → place ≡ Nothing
 whole_at_nothing Title t u r h e = absurd cc
 whole_at_nothing Operations t u r h e = absurd cc
 whole_at_nothing Workers t u r h e = absurd cc

@@ -5,7 +5,7 @@ ghost use Rattle.trace_text.specs.Traces.{told};
 ghost use Rattle.trace_text.specs.FrontOf.{IsFrontOf};
 
 use crate::next::{keep, next_line, place_behind};
-use crate::place::Place;
+use crate::place::LinePlace;
 use crate::trace::Trace;
 use ledger_record::History;
 use std::alloc::{AllocError, Global};
@@ -16,7 +16,7 @@ pub struct Front<'a> {
     /// What the lines tell. A number without its line is 0.
     pub trace: Trace,
     /// The place of the line behind them.
-    pub place: Place,
+    pub place: LinePlace,
     /// How many lines there are.
     pub lines: u64,
     /// What stands behind them, in which no line of the form for the place comes first.
@@ -43,7 +43,7 @@ pub fn read_front(alloc: Global, text: &[u8]) -> Result<Front<'_>, AllocError>
     ensures few { IfOk result (λ front. front.lines ≤ length text.now) }
 {
     let mut trace = empty(alloc);
-    let mut place = Place::Title;
+    let mut place = LinePlace::Title;
     let mut lines = 0u64;
     let mut rest = text;
     while let Some((line, behind)) = next_line(place, trace.costs.len(), rest) {

@@ -31,7 +31,7 @@ mod trace;
 pub use fault::{TraceFault, TraceReason, TraceRefusal};
 pub use front::{Front, read_front};
 pub use laws::{a_trace_or_a_fault, one_trace_a_text, spelled_or_at_fault};
-pub use place::Place;
+pub use place::LinePlace;
 pub use print::print_trace;
 pub use read::{LONGEST_TRACE, read_trace};
 pub use trace::Trace;

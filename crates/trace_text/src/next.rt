@@ -4,29 +4,29 @@ ghost use Rattle.std.specs.Prelude.{◌≡◌, length, OnOk, ◌<◌, ◌^◌};
 ghost use Rattle.trace_text.specs.Traces.{told};
 ghost use Rattle.trace_text.specs.Working.Places.{admits, with_line, costs_or_events, place_behind, Finds};
 
-use crate::place::Place;
+use crate::place::LinePlace;
 use crate::trace::Trace;
 use std::alloc::AllocError;
 use trace_line::{Line, take_line};
 
 /// Whether the line is of the form for the place, where so many costs were read.
-fn admits(place: Place, costs: usize, line: Line) -> bool
+fn admits(place: LinePlace, costs: usize, line: Line) -> bool
     ensures { result ≡ admits place costs line }
 {
     match (place, line) {
-        (Place::Title, Line::Title) => true,
-        (Place::Operations, Line::Operations(_)) => true,
-        (Place::Workers, Line::Workers(_)) => true,
-        (Place::Budget, Line::Budget(_)) => true,
-        (Place::Costs, Line::Cost { op, .. }) => op as usize == costs,
-        (Place::Events, Line::Step(_)) => true,
-        (Place::Events, Line::End) => true,
+        (LinePlace::Title, Line::Title) => true,
+        (LinePlace::Operations, Line::Operations(_)) => true,
+        (LinePlace::Workers, Line::Workers(_)) => true,
+        (LinePlace::Budget, Line::Budget(_)) => true,
+        (LinePlace::Costs, Line::Cost { op, .. }) => op as usize == costs,
+        (LinePlace::Events, Line::Step(_)) => true,
+        (LinePlace::Events, Line::End) => true,
         _ => false,
     }
 }
 
 /// The line at the front of the text, where it is of the form for the place, and what stands behind it.
-pub fn next_line(place: Place, costs: usize, text: &[u8]) -> Option<(Line, &[u8])>
+pub fn next_line(place: LinePlace, costs: usize, text: &[u8]) -> Option<(Line, &[u8])>
     ensures { Finds place costs text.now result }
 {
     let (line, rest) = take_line(text)?;
@@ -52,29 +52,29 @@ pub fn keep(trace: &mut Trace, line: Line) -> Result<(), AllocError>
     Ok(())
 }
 
-fn costs_or_events(trace: &Trace) -> Place
+fn costs_or_events(trace: &Trace) -> LinePlace
     ensures { result ≡ costs_or_events (length trace.now.costs.items) trace.now.history.operations }
 {
     if trace.costs.len() < trace.history.operations as usize {
-        Place::Costs
+        LinePlace::Costs
     } else {
-        Place::Events
+        LinePlace::Events
     }
 }
 
 /// The place behind a line that was kept.
-pub fn place_behind(place: Place, line: Line, trace: &Trace) -> Place
+pub fn place_behind(place: LinePlace, line: Line, trace: &Trace) -> LinePlace
     ensures { result ≡ place_behind place line (told trace.now) }
 {
     match place {
-        Place::Title => Place::Operations,
-        Place::Operations => Place::Workers,
-        Place::Workers => Place::Budget,
-        Place::Budget | Place::Costs => costs_or_events(trace),
-        Place::Events => match line {
-            Line::End => Place::Nothing,
-            _ => Place::Events,
+        LinePlace::Title => LinePlace::Operations,
+        LinePlace::Operations => LinePlace::Workers,
+        LinePlace::Workers => LinePlace::Budget,
+        LinePlace::Budget | LinePlace::Costs => costs_or_events(trace),
+        LinePlace::Events => match line {
+            Line::End => LinePlace::Nothing,
+            _ => LinePlace::Events,
         },
-        Place::Nothing => Place::Nothing,
+        LinePlace::Nothing => LinePlace::Nothing,
     }
 }

@@ -2,7 +2,7 @@
 
 /// The place of a trace's next line.
 #[derive(Clone, Copy, Debug, PartialEq, Eq)]
-pub enum Place {
+pub enum LinePlace {
     Title,
     Operations,
     Workers,

@@ -6,7 +6,7 @@ ghost use Rattle.trace_text.specs.Faults.{FailsToRead};
 
 use crate::fault::{TraceFault, TraceReason, TraceRefusal};
 use crate::front::{Front, read_front};
-use crate::place::Place;
+use crate::place::LinePlace;
 use crate::trace::Trace;
 use std::alloc::Global;
 
@@ -32,10 +32,10 @@ pub fn read_trace(alloc: Global, text: &[u8]) -> Result<Trace, TraceFault>
     }
 }
 
-fn is_whole(place: Place, rest: &[u8]) -> bool
-    ensures { IsTrue result ↔ ((place ≡ Place.Nothing) × (rest.now ≡ [])) }
+fn is_whole(place: LinePlace, rest: &[u8]) -> bool
+    ensures { IsTrue result ↔ ((place ≡ LinePlace.Nothing) × (rest.now ≡ [])) }
 {
-    place == Place::Nothing && rest.is_empty()
+    place == LinePlace::Nothing && rest.is_empty()
 }
 
 fn refusal(line: u64, reason: TraceReason) -> TraceFault

@@ -1,7 +1,7 @@
 -- Working words of the end of a replay, where every event that was read was allowed.
 use Rattle.std.specs.Prelude.{◌≡◌, ℕ, ◌+◌, Bool, true, false, [], length, Result, Ok, Err}
 use Rattle.trace_text.specs.declared.front.Front.{Front}
-use Rattle.trace_text.specs.declared.place.Place.TheVariants.{Nothing}
+use Rattle.trace_text.specs.declared.place.LinePlace.TheVariants.{Nothing}
 use Rattle.trace_text.specs.declared.fault.TraceReason.{TraceReason}
 use Rattle.trace_text.specs.declared.fault.TraceReason.TheVariants.{Syntax, Unfinished}
 use Rattle.trace_text.specs.declared.fault.TraceFault.{TraceFault}

@@ -4,13 +4,13 @@ use Rattle.std.specs.Borrow.{Bor}
 use Rattle.trace_line.specs.declared.line.Line.{Line}
 use Rattle.trace_line.specs.declared.line.Line.TheVariants as lines
 use Rattle.trace_line.specs.Lines.{Begins}
-use Rattle.trace_text.specs.declared.place.Place.{Place}
-use Rattle.trace_text.specs.declared.place.Place.TheVariants.{Title, Operations, Workers, Budget, Costs, Events, Nothing}
+use Rattle.trace_text.specs.declared.place.LinePlace.{LinePlace}
+use Rattle.trace_text.specs.declared.place.LinePlace.TheVariants.{Title, Operations, Workers, Budget, Costs, Events, Nothing}
 use Rattle.trace_text.specs.Traces.{Told, text_of}
 use Rattle.trace_text.specs.Places.{lines_before, IsReadTo}
 
 -- whether the line is of the form for the place, where so many costs were read
-abbrev pub admits : Place → ℕ → Line → Bool
+abbrev pub admits : LinePlace → ℕ → Line → Bool
 admits Title count lines.Title = true
 admits Operations count (lines.Operations n) = true
 admits Workers count (lines.Workers n) = true
@@ -31,11 +31,11 @@ with_line t lines.Title = t
 with_line t lines.End = t
 
 -- where costs are left, and where none is
-abbrev pub costs_or_events : ℕ → ℕ → Place
+abbrev pub costs_or_events : ℕ → ℕ → LinePlace
 costs_or_events count operations = if nat_lt count operations then Costs else Events
 
 -- the place behind a line, where it has been told
-abbrev pub place_behind : Place → Line → Told → Place
+abbrev pub place_behind : LinePlace → Line → Told → LinePlace
 place_behind Title l t = Operations
 place_behind Operations l t = Workers
 place_behind Workers l t = Budget
@@ -46,12 +46,12 @@ place_behind Events l t = Events
 place_behind Nothing l t = Nothing
 
 -- the line that was found at a place is admitted there and begins the text, and none does where none was found
-abbrev pub Finds : Place → ℕ → List ℕ → Option (Line × Bor (List ℕ)) → Type 0
+abbrev pub Finds : LinePlace → ℕ → List ℕ → Option (Line × Bor (List ℕ)) → Type 0
 Finds place count text None = (l : Line) (rest : List ℕ) → Begins text l rest → admits place count l ≡ true → ⊥
 Finds place count text (Some x) = Begins text x.0 x.1.now × (admits place count x.0 ≡ true)
 
 -- the first lines of a text, up to a place, and the rest behind them
-pub record IsReading (text : List ℕ) (place : Place) (t : Told) (rest : List ℕ) (count : ℕ) : Type 0 where
+pub record IsReading (text : List ℕ) (place : LinePlace) (t : Told) (rest : List ℕ) (count : ℕ) : Type 0 where
   pub read : IsReadTo place t
   pub parts : text ≡ text_of (lines_before place t) ++ rest
   pub lines : count ≡ length (lines_before place t)

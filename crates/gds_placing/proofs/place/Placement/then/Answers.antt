@@ -1,9 +1,9 @@
 use Rattle.std.proofs.Common.{◌*◌, sym, ◌∙◌}
-use Rattle.gds_placing.specs.declared.place.Place.{Place}
+use Rattle.gds_placing.specs.declared.place.Placement.{Placement}
 use Rattle.gds_placing.specs.Places.{both_turns}
 use Rattle.gds_placing.proofs.OneTurn.{one_turn}
 use Rattle.gds_placing.proofs.Turning.{both_turns_follow, both_turns_few}
-use Rattle.gds_placing.proofs.place.Place.then.Goals as goal
+use Rattle.gds_placing.proofs.place.Placement.then.Goals as goal
 
 pub returns : goal.returns
 returns c =
@@ -15,5 +15,5 @@ returns c =
     (λ p. c.then.ensures.follows p ∙ sym (both_turns_follow inner.turn outer.turn p)) in
     let both = inner.magnification * outer.magnification in
     λ i.
-    let r : Place = record { turn = turn i; magnification = both; origin = c.apply.ensures i } in
+    let r : Placement = record { turn = turn i; magnification = both; origin = c.apply.ensures i } in
     r

@@ -2,7 +2,7 @@ use Rattle.std.proofs.Common.{◌∙◌, ap, rules, w64, SFits, pos, ◌+ℤ◌,
 use Rattle.std.proofs.lemmas.Int.{to_z-of_z}
 use Rattle.gds_placing.specs.Places.{magnified, moved}
 use Rattle.gds_placing.proofs.Following.{magnified_last}
-use Rattle.gds_placing.proofs.place.Place.apply.Goals as goal
+use Rattle.gds_placing.proofs.place.Placement.apply.Goals as goal
 
 pub returns : goal.returns
 returns c =
