@@ -62,36 +62,36 @@ anywhere n (kinds.Sign s.Over) at bytes = refl
 anywhere n (kinds.Sign s.Modulo) at bytes = refl
 anywhere n (kinds.Sign s.Power) at bytes = refl
 
--- a token of a list with one more at its end is the last, or stands in the list
-record Inside (tokens before : List Lexeme) (token : Lexeme) : Type 0 where
-  behind : List Lexeme
-  whole : tokens ≡ before ++ token ∷ behind
+-- an item of a list with one more at its end is the last, or stands in the list
+pub record Inside {X : Type 0} (items before : List X) (item : X) : Type 0 where
+  pub behind : List X
+  pub whole : items ≡ before ++ item ∷ behind
 
-pub never_empty : (before : List Lexeme) (token : Lexeme) (behind : List Lexeme) → [] ≡ before ++ token ∷ behind → ⊥
-never_empty [] token behind e = cc
-never_empty (b ∷ before) token behind e = cc
+pub never_empty : {X : Type 0} (before : List X) (item : X) (behind : List X) → [] ≡ before ++ item ∷ behind → ⊥
+never_empty [] item behind e = cc
+never_empty (b ∷ before) item behind e = cc
 
-last_or_inside : (tokens before : List Lexeme) (t token : Lexeme) (behind : List Lexeme)
-    → tokens ++ t ∷ [] ≡ before ++ token ∷ behind
-    → ((before ≡ tokens) × (token ≡ t)) ⊎ Inside tokens before token
-last_or_inside [] [] t token behind e = let is : t ≡ token = cc in inl (refl, sym is)
-last_or_inside [] (b ∷ before) t token behind e = let rest : []
-    ≡ before ++ token ∷ behind = cc in absurd (never_empty before token behind rest)
-last_or_inside (u ∷ tokens) [] t token behind e = let is : u
-    ≡ token = cc in inr (record { behind = tokens; whole = ap (λ x. x ∷ tokens) is })
-last_or_inside (u ∷ tokens) (b ∷ before) t token behind e =
+pub last_or_inside : {X : Type 0} (items before : List X) (last item : X) (behind : List X)
+    → items ++ last ∷ [] ≡ before ++ item ∷ behind
+    → ((before ≡ items) × (item ≡ last)) ⊎ Inside items before item
+last_or_inside [] [] last item behind e = let is : last ≡ item = cc in inl (refl, sym is)
+last_or_inside [] (b ∷ before) last item behind e = let rest : []
+    ≡ before ++ item ∷ behind = cc in absurd (never_empty before item behind rest)
+last_or_inside (u ∷ items) [] last item behind e = let is : u
+    ≡ item = cc in inr (record { behind = items; whole = ap (λ x. x ∷ items) is })
+last_or_inside (u ∷ items) (b ∷ before) last item behind e =
     let is : u ≡ b = cc in
-    let rest : tokens ++ t ∷ [] ≡ before ++ token ∷ behind = cc in
-    elim (last_or_inside tokens before t token behind rest) [
-      | inl last ↦ inl (ap (λ x. x ∷ before) (sym is) ∙ ap (λ those. u ∷ those) last.0, last.1)
+    let rest : items ++ last ∷ [] ≡ before ++ item ∷ behind = cc in
+    elim (last_or_inside items before last item behind rest) [
+      | inl at_end ↦ inl (ap (λ x. x ∷ before) (sym is) ∙ ap (λ those. u ∷ those) at_end.0, at_end.1)
       | inr there ↦ inr (record {
         behind = there.behind;
-        whole = ap (λ x. x ∷ tokens) is
+        whole = ap (λ x. x ∷ items) is
             ∙ ap (λ those. b ∷ those) there.whole;
       })
     ]
 
-stand_more : (before : List Lexeme) (t : Lexeme) → Stand before → Viable (before ++ t ∷ []) → (IsTooDeep before t
+pub stand_more : (before : List Lexeme) (t : Lexeme) → Stand before → Viable (before ++ t ∷ []) → (IsTooDeep before t
     → ⊥) → Stand (before ++ t ∷ [])
 stand_more before t stand viable fine = (
   viable,

@@ -8,3 +8,6 @@ mod OneRefusal
 mod Statements
 mod Upcoming
 mod Rounds
+mod Singles
+mod Walked
+mod SomeAnswer

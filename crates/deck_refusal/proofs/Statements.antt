@@ -12,7 +12,7 @@ use Rattle.deck_cursor.specs.Decks.{IsDeckOf}
 use Rattle.deck_refusal.proofs.Going.{never_empty}
 use Rattle.deck_refusal.specs.Refused.{IsTextRefused, by_tokens, IsTextAccepted}
 
-abbrev HasWanted : List Statement → Type 0
+abbrev pub HasWanted : List Statement → Type 0
 HasWanted all = (one : Single) → Contains wanted one → Contains (singles all) one
 
 pub missing_so : (text : List ℕ) (all : List Statement) (which : Single) → length text ≤ longest_deck

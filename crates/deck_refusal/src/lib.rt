@@ -22,7 +22,7 @@ mod walk;
 mod whole;
 
 pub use lacking::statements_refusal;
-pub use laws::one_refusal;
+pub use laws::{accepted_or_refused, one_refusal};
 pub use whole::refusal;
 
 #[cfg(test)]
