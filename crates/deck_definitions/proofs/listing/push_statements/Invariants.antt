@@ -1,0 +1,10 @@
+-- The definitions that were pushed, and those that are left, make the whole; and no more checks came than statements.
+use Rattle.std.proofs.Common.{◌≡◌, ◌≤◌, ◌++◌, drop}
+use Rattle.deck_definitions.specs.Definitions.{shown, entries_from}
+use Rattle.deck_definitions.proofs.listing.push_statements.Given as goal
+
+abbrev pub invariant-loop-statement : goal.invariant-loop-statement
+invariant-loop-statement l =
+    (shown l.found.items ++ entries_from l.check (drop l.statement-index l.statements)
+    ≡ shown l.initial.found.items ++ entries_from 0 l.statements)
+    × (l.check ≤ l.statement-index)
