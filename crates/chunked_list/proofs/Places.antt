@@ -7,10 +7,11 @@ use Rattle.std.proofs.lemmas.Bool.Decides.{nat_tests}
 use Rattle.std.specs.Global.{Vec}
 use Rattle.std.specs.List.{before_first, position_or_len, insert, filter}
 use mathlib.Core.Bool.{true≢false}
+use Rattle.list_facts.proofs.Tests.{by_test}
 use Rattle.chunked_list.specs.Chunks.{joined, AreFull}
 use Rattle.chunked_list.specs.Stretches.{from_first, last, IsMonotone}
 use Rattle.chunked_list.specs.Working.Places.{items_of, lead, trail, before_place, behind_place, replaced, begins_passed, IsAround, change, IsWrittenOver}
-use Rattle.chunked_list.proofs.Stretches.{AllFail, IsStop, all_before, before_behind, before_ended, before_join, by_test, fails_before, from_behind, from_join, past_failed}
+use Rattle.chunked_list.proofs.Stretches.{AllFail, IsStop, all_before, before_behind, before_ended, before_join, fails_before, from_behind, from_join, past_failed}
 
 drop_past : {Y : Type 0} (n : ℕ) (xs ys : List Y) → length xs ≤ n → drop n (xs ++ ys) ≡ drop (n - length xs) ys
 drop_past n [] ys h = let e : n - 0 ≡ n = omega arith in ap (λ m. drop m ys) (sym e)

@@ -5,17 +5,13 @@ use Rattle.std.proofs.lemmas.List.Sums.{prefix_len-le-length}
 use Rattle.std.proofs.lemmas.Bool.Decides.{nat_tests}
 use Rattle.std.specs.List.{AllByRecursion, before_first, position_or_len}
 use Rattle.std.specs.Option.{unwrap_or}
-use Rattle.list_facts.proofs.Tests.{clash}
+use Rattle.list_facts.proofs.Tests.{by_test, clash}
 use Rattle.chunked_list.specs.Stretches.{from_first, IsMonotone}
 use Rattle.chunked_list.specs.Working.Places.{begins_passed}
 
 -- the first place, or else the length
 pub place_or_length : (n m : ℕ) → n ≤ m → unwrap_or (cond (ltb n m) (Some n) None) m ≡ n
 place_or_length n m h = grind (arith, nat_tests)
-
-pub by_test : {A : Type 0} (b : Bool) → (b ≡ true → A) → (b ≡ false → A) → A
-by_test true f g = f refl
-by_test false f g = g refl
 
 module _ {X : Type 0} where
   pub place_within : (p : X → Bool) (xs : List X) → position_or_len p xs ≤ length xs

@@ -1,4 +1,3 @@
 mod Within
-pub mod Numbering
-mod Rounds
+pub mod Rounds
 mod Lists

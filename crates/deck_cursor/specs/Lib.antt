@@ -1,5 +1,4 @@
 pub mod Places
 pub mod Inside
-pub mod Working
 pub mod Decks
 pub mod Steps

@@ -1,20 +1,15 @@
 //! The cursor.
 
-ghost use Rattle.std.specs.Prelude.{◌≡◌, ◌≢◌, ◌≤◌, ◌<◌, ◌+◌, ◌-◌, ◌∷◌, [], ◌↔◌, IsTrue, length, drop, IfOk, IfSome, IfNone, OnErr, None, Ok};
+ghost use Rattle.std.specs.Prelude.{◌≡◌, ◌≤◌, ◌-◌, ◌↔◌, IsTrue, length, drop, IfOk, OnErr, None, Ok};
 ghost use Rattle.deck_lexer.specs.Tokens.{Comes};
 ghost use Rattle.deck_grammar.specs.Lexemes.{lexeme};
-ghost use Rattle.deck_grammar.specs.Refusals.{open_behind};
-ghost use Rattle.deck_cursor.specs.Inside.{IsUpcoming};
-ghost use Rattle.deck_cursor.specs.Places.{kind_in, bytes_of, start_of, Takes, TakesNone, Sees, SeesBehind};
+ghost use Rattle.deck_cursor.specs.Places.{start_of, Takes, TakesNone, Sees, SeesBehind};
 
-use crate::kinds::is_same;
-use deck_grammar::{Kind, Sign, kind_of_sign, kind_of_word};
-use deck_lexer::{Token, TokenKind, next};
+use crate::lexed::{brackets_behind, bytes_of, kind_in, upcoming};
+use deck_grammar::{Kind, is_same};
+use deck_lexer::{Token, next};
 use std::alloc::{AllocError, AllocFailed};
 use std::marker::Model;
-
-/// How many round brackets may stand inside one another.
-pub const MAX_NESTING: u64 = 64;
 
 /// Why reading stops before the end.
 #[derive(Clone, Copy, Debug, PartialEq, Eq)]
@@ -66,30 +61,6 @@ impl<'a> Model for Cursor<'a> {
     ghost invariant = { IsReady };
 }
 
-fn kind_in(kind: TokenKind, bytes: &[u8]) -> Kind
-    ensures { result ≡ kind_in kind bytes.now }
-{
-    match kind {
-        TokenKind::Word => kind_of_word(bytes),
-        TokenKind::Number => Kind::Number,
-        TokenKind::Text => Kind::Text,
-        TokenKind::Sign => kind_of_sign(bytes),
-        TokenKind::Note => Kind::Note,
-    }
-}
-
-// The first token at an offset or behind it. None at the end, and where a fact comes.
-fn upcoming(text: &[u8], at: usize) -> Option<Token>
-    requires { at ≤ length text.now }
-    ensures { IsUpcoming text.now at result }
-{
-    match next(text, at) {
-        Ok(Some(token)) => Some(token),
-        Ok(None) => None,
-        Err(_) => None,
-    }
-}
-
 // Whether neither a token nor a fact comes.
 fn is_end(text: &[u8], at: usize) -> bool
     requires { at ≤ length text.now }
@@ -99,35 +70,6 @@ fn is_end(text: &[u8], at: usize) -> bool
         Ok(None) => true,
         Ok(Some(_)) => false,
         Err(_) => false,
-    }
-}
-
-fn bytes_of<'a>(text: &'a [u8], token: Token) -> &'a [u8]
-    requires order { token.start ≤ token.end }
-    requires within { token.end ≤ length text.now }
-    ensures { result.now ≡ bytes_of text.now token }
-{
-    &text[token.start..token.end]
-}
-
-// How many brackets are open behind a token of this kind; None for the one that is too many.
-fn brackets_behind(brackets: u64, kind: Kind) -> Option<u64>
-    requires { brackets ≤ 64 }
-    ensures few { IfSome result (λ n. n ≤ 64) }
-    ensures value { IfSome result (λ n. n ≡ open_behind brackets (lexeme kind 0 [] ∷ [])) }
-    ensures too_deep { IfNone result ((kind ≡ Kind.Sign Sign.LeftRound) × (brackets ≡ 64)) }
-    ensures not_too_deep { IfSome result (λ n. kind ≡ Kind.Sign Sign.LeftRound → brackets ≢ 64) }
-{
-    match kind {
-        Kind::Sign(Sign::LeftRound) => {
-            if brackets < MAX_NESTING {
-                Some(brackets + 1)
-            } else {
-                None
-            }
-        }
-        Kind::Sign(Sign::RightRound) => Some(brackets.saturating_sub(1)),
-        _ => Some(brackets),
     }
 }
 

@@ -5,12 +5,12 @@
 #![tactic(auto)]
 
 mod cursor;
-mod kinds;
 mod laws;
+mod lexed;
 
-pub use cursor::{Cursor, MAX_NESTING, Stop, Taken};
-pub use kinds::is_same;
+pub use cursor::{Cursor, Stop, Taken};
 pub use laws::steps_are_a_deck;
+pub use lexed::{MAX_NESTING, brackets_behind, bytes_of, kind_in, upcoming};
 
 #[cfg(test)]
 mod tests;

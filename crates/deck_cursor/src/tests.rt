@@ -20,7 +20,6 @@ fn tokens_are_taken(rt: HostRuntime) {
     assert!(rt; cursor.take(Kind::Number).is_ok());
     assert!(rt; cursor.is_at_end());
     assert!(rt; cursor.peek().is_none());
-    assert!(rt; is_same(Kind::Sign(Sign::Less), Kind::Sign(Sign::Less)));
 }
 
 #[test]

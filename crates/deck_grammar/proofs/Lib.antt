@@ -2,10 +2,11 @@ mod Cuts
 mod Examples
 pub mod Fronts
 mod Starts
-pub mod Readings
-pub mod Unique
+mod Readings
+mod Unique
 mod Tables
-pub mod Refused
+mod Refused
 mod Worked
-mod OnceFacts
+pub mod OnceFacts
 mod WorkedFronts
+pub mod Numbering

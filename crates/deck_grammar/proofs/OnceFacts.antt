@@ -19,8 +19,8 @@ take_next xs i x h e = take-add i 1 xs ∙ ap (λ those. take i xs ++ take 1 tho
 pub whole_is : {X : Type 0} (xs : List X) (i : ℕ) (x : X) → i < length xs → x ≡ get_or xs i x → xs ≡ take i xs ++ x ∷ drop (i + 1) xs
 whole_is xs i x h e = sym (take-append-drop i xs) ∙ ap (λ those. take i xs ++ those) (next_is xs i x h e)
 
--- a list of one statement has its word alone
-in_none : (which : Single) → Contains [] which → ⊥
+-- no statement stands among none, and a list of one has its word alone
+pub in_none : (which : Single) → Contains [] which → ⊥
 in_none which c = absurd (let h : c.0 < 0 = c.1 in omega arith)
 
 in_one : (one which : Single) (k : ℕ) → k < 1 → get_or (one ∷ []) k which ≡ which → one ≡ which
@@ -85,6 +85,3 @@ none_once prior repeat back which e is came =
 
 pub never : IsTrue false → ⊥
 never e = cc
-
-pub same_some : (a b : Single) → Some a ≡ Some b → a ≡ b
-same_some a b e = cc

@@ -1,7 +1,7 @@
 -- A list of tokens is refused in one way at most, and not where it is accepted.
 use Rattle.std.proofs.Common.{◌≡◌, ℕ, List, [], ◌∷◌, ◌++◌, refl, ap, sym, subst, ◌∙◌, append_assoc, Contains, arith}
-use Rattle.std.specs.Prelude.{Some}
 use Rattle.std.proofs.lemmas.List.Elements.{Contains-append_right}
+use Rattle.std.proofs.lemmas.Option.{same_Some}
 use Rattle.deck_tree.specs.declared.statement.Statement.{Statement}
 use Rattle.deck_tree.specs.declared.refusal.Single.{Single}
 use Rattle.deck_tree.specs.declared.refusal.DeckKind.{DeckKind}
@@ -92,15 +92,12 @@ first_missing all a b m n = by (places m.before a m.behind n.before b n.behind (
 not_missing : (all : List Statement) (which : Single) → IsMissing all which → ((one : Single) → Contains wanted one → Contains (singles all) one) → ⊥
 not_missing all which m stand = m.missing (stand which (subst (λ those. Contains those which) (sym m.is_wanted) (here_is m.before which m.behind)))
 
-same_some : (a b : Single) → Some a ≡ Some b → a ≡ b
-same_some a b e = cc
-
 first_repeated : (all : List Statement) (a b : Single) (place place' : ℕ) → IsRepeated all a place → IsRepeated all b place' → refusal_at place (reasons.RepeatedStatement a) ≡ refusal_at place' (reasons.RepeatedStatement b)
 first_repeated all a b place place' m n = by (places m.before m.repeat m.behind n.before n.repeat n.behind (sym m.stands ∙ n.stands))
   where
     by : Places m.before n.before m.repeat n.repeat → refusal_at place (reasons.RepeatedStatement a) ≡ refusal_at place' (reasons.RepeatedStatement b)
     by (same p q) = same_refusal place place' _ _ ((m.place_is ∙ ap place_of q) ∙ sym n.place_is)
-        (ap reasons.RepeatedStatement (same_some a b ((sym m.is_single ∙ ap single_of q) ∙ n.is_single)))
+        (ap reasons.RepeatedStatement (same_Some a b ((sym m.is_single ∙ ap single_of q) ∙ n.is_single)))
     by (before between p) = absurd (n.first m.before m.repeat between a p m.is_single m.came)
     by (behind between p) = absurd (m.first n.before n.repeat between b p n.is_single n.came)
 

@@ -26,6 +26,7 @@ fn words_and_signs(rt: HostRuntime) {
     for (sign, wanted) in signs {
         assert!(rt; kind_of_sign(sign.as_bytes()) == Kind::Sign(wanted));
     }
+    assert!(rt; is_same(Kind::Sign(Sign::Less), Kind::Sign(Sign::Less)));
 }
 
 #[test]

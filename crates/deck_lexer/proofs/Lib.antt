@@ -6,4 +6,4 @@ pub mod Lens
 pub mod Fronts
 mod OneAnswer
 pub mod OneGap
-mod TokenLaws
+pub mod TokenLaws

@@ -39,7 +39,7 @@ not_both text tokens fault one other =
     cc
 
 -- a token ends behind the place, and within the text
-token_ends : (text : List ℕ) (at : ℕ) (t : Token) → Comes at (drop at text) (Ok (Some t)) → at < t.end
+pub token_ends : (text : List ℕ) (at : ℕ) (t : Token) → Comes at (drop at text) (Ok (Some t)) → at < t.end
 token_ends text at t comes =
     let begins = spelling_begins t.kind comes.stands.spelled comes.stands.spelling in
     omega (arith, comes.stands.end, ap length begins.2)

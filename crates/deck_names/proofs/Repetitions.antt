@@ -2,7 +2,6 @@
 use Rattle.std.proofs.Common.{◌≡◌, ◌↔◌, ◌⊎◌, ℕ, zero, suc, ◌+◌, Bool, true, false, cond, ◌&&◌, ◌||◌, List, [], ◌∷◌, Option, Some, is_some, slice_get, refl, sym, ap, ◌∙◌, inl, inr}
 use Rattle.std.proofs.lemmas.Bool.{and_from, and_parts, or_cases, or_left, or_right, eqb-true, eq-eqb}
 use Rattle.std.proofs.lemmas.Option.{none-some, same_Some}
-use Rattle.std.specs.Prelude.{nat_eq}
 use Rattle.std.specs.Borrow.{Bor}
 use Rattle.std.specs.List.{position_from}
 use mathlib.Core.Bool.{true≢false}
@@ -32,9 +31,6 @@ module _ {X : Type 0} (p : X → Bool) where
       by_head later true = refl
       by_head later false = later
 
-itself : (k : ℕ) → nat_eq k k ≡ true
-itself k = eq-eqb k k refl
-
 module _ (definitions : List Definition) (name : Bor (List ℕ)) where
   abbrev first_that : (Scope → Bool) → Option ℕ
   first_that counts = position_from (λ d. counts d.scope && has_name name.now d) 0 definitions
@@ -43,7 +39,7 @@ module _ (definitions : List Definition) (name : Bor (List ℕ)) where
 
   inside_seen : (s : Scope) → is_inside s ≡ true → (from : Scope) × (is_seen s from ≡ true)
   inside_seen scope.Everywhere e = absurd (true≢false (sym e))
-  inside_seen (scope.Check k) e = (scope.Check k, itself k)
+  inside_seen (scope.Check k) e = (scope.Check k, eq-eqb k k refl)
 
   outside_seen : (s from : Scope) → is_outside s ≡ true → is_seen s from ≡ true
   outside_seen scope.Everywhere from e = refl
@@ -93,11 +89,11 @@ module _ (definitions : List Definition) (name : Bor (List ℕ)) where
         | inl t ↦
             let r = some_there (λ d. is_outside d.scope && has_name name.now d) 0 definitions t in
             let b = and_parts (is_outside r.1.scope) (has_name name.now r.1) r.3 in
-            (r.0, r.1, r.2, record { same = b.1; from = scope.Check k; first_seen = outside_seen r.1.scope (scope.Check k) b.0; second_seen = itself k })
+            (r.0, r.1, r.2, record { same = b.1; from = scope.Check k; first_seen = outside_seen r.1.scope (scope.Check k) b.0; second_seen = eq-eqb k k refl })
         | inr t ↦
             let r = some_there (λ d. is_in k d.scope && has_name name.now d) 0 definitions t in
             let b = and_parts (is_in k r.1.scope) (has_name name.now r.1) r.3 in
-            (r.0, r.1, r.2, record { same = b.1; from = scope.Check k; first_seen = in_seen k r.1.scope b.0; second_seen = itself k })
+            (r.0, r.1, r.2, record { same = b.1; from = scope.Check k; first_seen = in_seen k r.1.scope b.0; second_seen = eq-eqb k k refl })
       ]
 
   inside_repeats : (k : ℕ) → IsRepetition definitions (definition name (scope.Check k)) → (is_some (first_that is_outside) || is_some (first_that (is_in k))) ≡ true

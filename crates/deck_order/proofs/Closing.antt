@@ -11,7 +11,7 @@ use Rattle.deck_order.specs.declared.step.Step.{Step}
 use Rattle.deck_order.specs.Uses.{used_by, IsUse, Leads, at_once, by}
 use Rattle.deck_order.specs.Working.Walks.{Stage, IsMarked, IsGrouped, IsWay, IsPast, AreMet, IsClosed, IsWalk, IsLast, GoesOn, unseen}
 use Rattle.deck_order.specs.Working.Closing.{group_left}
-use Rattle.deck_order.proofs.Slots.{at_end, behind, dropped, either, front, one_more, take_has, taken}
+use Rattle.list_facts.proofs.Slots.{at_end, behind, dropped, either, front, one_more, take_has, taken}
 use Rattle.deck_order.proofs.Leading.{kept, onward}
 use Rattle.deck_order.proofs.Entering.{bounds_low}
 use Rattle.deck_order.proofs.Counting.{flag_was, is_closed, length_closed, length_flags, none_seen_more, stays_closed, still_so, was_so}

@@ -7,7 +7,7 @@ use Rattle.deck_order.specs.declared.mark.Mark.TheVariants.{Closed}
 use Rattle.deck_order.specs.Working.Walks.{Stage}
 use Rattle.deck_order.specs.Working.Closing.{flags_set, marks_closed, IsClosing}
 use Rattle.deck_order.proofs.Counting.{length_closed, length_flags}
-use Rattle.deck_order.proofs.Slots.{at_end, taken}
+use Rattle.list_facts.proofs.Slots.{at_end, taken}
 
 -- what is cut off behind one place less
 cut_one : {X : Type 0} (k : ℕ) (xs : List X) (x : X) → slice_get xs k ≡ Some x → drop k xs ≡ x ∷ drop (k + 1) xs

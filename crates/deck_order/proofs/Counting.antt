@@ -8,7 +8,7 @@ use Rattle.deck_order.specs.declared.mark.Mark.{Mark}
 use Rattle.deck_order.specs.declared.mark.Mark.TheVariants.{Unseen, Open, Closed}
 use Rattle.deck_order.specs.Working.Walks.{unseen}
 use Rattle.deck_order.specs.Working.Closing.{flags_set, marks_closed}
-use Rattle.deck_order.proofs.Slots.{unwritten, written, written_cases}
+use Rattle.list_facts.proofs.Slots.{unwritten, written, written_cases}
 
 -- ---- how many aren't come to
 

@@ -9,7 +9,7 @@ use Rattle.deck_order.specs.declared.mark.Mark.{Mark}
 use Rattle.deck_order.specs.declared.mark.Mark.TheVariants.{Unseen, Open, Closed}
 use Rattle.deck_order.specs.Orders.{ListsEach, StandBehindUses, TellCyclic}
 use Rattle.deck_order.specs.Working.Walks.{Stage, IsWalk, IsSeen, GoesOn}
-use Rattle.deck_order.proofs.Slots.{unwritten, written}
+use Rattle.list_facts.proofs.Slots.{unwritten, written}
 
 -- ---- the beginning
 

@@ -10,7 +10,7 @@ use Rattle.deck_order.specs.declared.mark.Mark.TheVariants.{Unseen, Open, Closed
 use Rattle.deck_order.specs.declared.step.Step.{Step}
 use Rattle.deck_order.specs.Uses.{IsUse, Leads, at_once}
 use Rattle.deck_order.specs.Working.Walks.{Stage, IsMarked, NoneBegins, IsGrouped, IsWay, IsPast, AreMet, IsClosed, IsWalk, IsLast, MayOpen, entered}
-use Rattle.deck_order.proofs.Slots.{at_end, front, one_more, unwritten, written, written_cases}
+use Rattle.list_facts.proofs.Slots.{at_end, front, one_more, unwritten, written, written_cases}
 use Rattle.deck_order.proofs.Leading.{onward}
 
 -- every bound is at or below the place of the way's last definition

@@ -9,7 +9,7 @@ use Rattle.std.specs.Global.{Vec}
 use Rattle.deck_order.specs.declared.step.Step.{Step}
 use Rattle.deck_order.specs.Uses.{used_by}
 use Rattle.deck_order.specs.Working.Walks.{Stage, IsWalk, IsLast, looked}
-use Rattle.deck_order.proofs.Slots.{at_end}
+use Rattle.list_facts.proofs.Slots.{at_end}
 
 pub at_last : (path : List Step) (d : Step) → 0 < length path → IsLast path (slice_index_or path (length path - 1) d)
 at_last path d l = (length path - 1, omega arith, slice_get-get_or path (length path - 1) d (omega arith))

@@ -7,7 +7,7 @@ use Rattle.std.specs.Global.{Vec}
 use Rattle.deck_order.specs.declared.step.Step.{Step}
 use Rattle.deck_order.specs.Uses.{used_by}
 use Rattle.deck_order.specs.Working.Walks.{Stage, IsPast, IsWalk, IsLast, left}
-use Rattle.deck_order.proofs.Slots.{at_end, front, one_more}
+use Rattle.list_facts.proofs.Slots.{at_end, front, one_more}
 use Rattle.deck_order.proofs.Entering.{bounds_low}
 
 -- where a list has no more at a place, each of its places is below that

@@ -1,4 +1,3 @@
-mod Slots
 mod Leading
 mod Entering
 mod Looking

@@ -9,7 +9,7 @@ use Rattle.deck_order.specs.declared.mark.Mark.TheVariants.{Unseen, Open, Closed
 use Rattle.deck_order.specs.declared.step.Step.{Step}
 use Rattle.deck_order.specs.Uses.{used_by, IsUse, Leads, at_once}
 use Rattle.deck_order.specs.Working.Walks.{Stage, IsMarked, NoneBegins, IsGrouped, IsWay, IsPast, IsMet, AreMet, IsWalk, IsLast, IsJoined, IsPassed, left_to_look, looked, seen_more}
-use Rattle.deck_order.proofs.Slots.{take_has, taken}
+use Rattle.list_facts.proofs.Slots.{take_has, taken}
 use Rattle.deck_order.proofs.Leading.{onward}
 use Rattle.deck_order.proofs.Entering.{leads_to_last}
 

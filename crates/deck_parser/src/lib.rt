@@ -9,8 +9,10 @@
 #![tactic(auto)]
 
 mod deck;
+mod laws;
 
 pub use deck::parse;
+pub use laws::{one_text_answer, some_text_answer};
 
 #[cfg(test)]
 mod tests;

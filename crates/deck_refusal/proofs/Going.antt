@@ -14,9 +14,9 @@ use Rattle.deck_grammar.specs.Rules.{Part, rule, statements}
 use Rattle.deck_grammar.specs.Spelling.{Viable, nothing}
 use Rattle.deck_tree.specs.WellFormed.{most_nested}
 use Rattle.deck_grammar.specs.Refusals.{open_behind, IsTooDeep, Stand, AwaitsPrimary, IsSetAside, IsWrong, set_aside, no_place, too_deep}
-use Rattle.deck_refusal.proofs.Rounds.{one_by_one}
-use Rattle.deck_front.specs.Stacks.{Behind, AreNext}
-use Rattle.deck_front.proofs.Following.{at_first, behind_more, viable_has_stacks, stacks_are_viable}
+use Rattle.deck_cursor.proofs.Rounds.{one_by_one}
+use Rattle.deck_stacks.specs.Stacks.{Behind, AreNext}
+use Rattle.deck_stacks.proofs.Following.{at_first, behind_more, viable_has_stacks, stacks_are_viable}
 use Rattle.deck_refusal.specs.declared.walk.Walk.{Walk}
 use Rattle.deck_refusal.specs.Working.Walking.{HasCome, Misplaced}
 use Rattle.deck_refusal.specs.Working.Recent.{latest}

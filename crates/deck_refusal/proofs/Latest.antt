@@ -6,8 +6,8 @@ use Rattle.std.proofs.Math.Seq.{take-append-add}
 use Rattle.deck_grammar.specs.declared.kind.Kind.{Kind}
 use Rattle.deck_grammar.specs.Lexemes.{Lexeme, lexeme, kind}
 use Rattle.deck_grammar.specs.Refusals.{EndsIn}
-use Rattle.deck_cursor.specs.Working.Numbers.{same_kind}
-use Rattle.deck_cursor.proofs.Numbering.{same_is, is_same}
+use Rattle.deck_grammar.specs.Working.Numbers.{same_kind}
+use Rattle.deck_grammar.proofs.Numbering.{same_is, is_same}
 use Rattle.deck_refusal.specs.Working.Recent.{latest, begins_with}
 
 -- ---- Lists that begin with others

@@ -6,8 +6,6 @@ mod Going
 mod Reading
 mod OneRefusal
 mod Statements
-mod Upcoming
-mod Rounds
 mod Singles
 mod Walked
 mod SomeAnswer

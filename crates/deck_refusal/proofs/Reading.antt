@@ -16,7 +16,7 @@ use Rattle.deck_grammar.specs.Refusals.{IsWrong, at_token, at_end, refusal_at}
 use Rattle.deck_cursor.specs.Places.{kind_in, bytes_of, lexeme_of, lexemes}
 use Rattle.deck_cursor.specs.Inside.{IsUpcoming}
 use Rattle.deck_cursor.specs.Decks.{IsDeckOf}
-use Rattle.deck_front.proofs.Following.{ends_as_deck, deck_may_end}
+use Rattle.deck_stacks.proofs.Following.{ends_as_deck, deck_may_end}
 use Rattle.deck_refusal.specs.declared.walk.Walk.{Walk}
 use Rattle.deck_refusal.specs.declared.walk.Gone.{Gone}
 use Rattle.deck_refusal.specs.declared.walk.Gone.TheVariants as gone

@@ -9,7 +9,8 @@ use Rattle.deck_tree.specs.declared.statement.Statement.{Statement}
 use Rattle.deck_tree.specs.declared.refusal.Single.{Single}
 use Rattle.deck_tree.specs.declared.refusal.Single.TheVariants as single
 use Rattle.deck_grammar.specs.Refusals.{single_of, singles, place_of, wanted, IsMissing, IsRepeated, StandOnce}
-use Rattle.deck_refusal.proofs.Going.{last_or_inside, never_empty}
+use Rattle.deck_grammar.proofs.OnceFacts.{in_none, stand_once_more}
+use Rattle.deck_refusal.proofs.Going.{never_empty}
 use Rattle.deck_refusal.proofs.Statements.{HasWanted}
 
 -- ---- Statements that stand once are told apart
@@ -49,9 +50,6 @@ same_or_not a b = elim (eqb_tells (number a) (number b)) [
   | inl same ↦ inl (sym (back a) ∙ (ap numbered same.1 ∙ back b))
   | inr other ↦ inr (λ e. other.1 (ap number e))
 ]
-
-in_none : (one : Single) → Contains [] one → ⊥
-in_none one c = absurd (let h : c.0 < 0 = c.1 in omega arith)
 
 pub has_or_not : (those : List Single) (one : Single) → Contains those one ⊎ (Contains those one → ⊥)
 has_or_not [] one = inr (in_none one)
@@ -127,14 +125,6 @@ missing_or_not all =
 
 -- ---- Statements that stand once
 
-once_more : (before : List Statement) (x : Statement) → StandOnce before
-    → ((which : Single) → single_of x ≡ Some which → Contains (singles before) which → ⊥) → StandOnce (before ++ x ∷ [])
-once_more before x once new prior repeat behind which e is came =
-    elim (last_or_inside before prior x repeat behind e) [
-      | inl last ↦ new which (ap single_of (sym last.1) ∙ is) (subst (λ those. Contains (singles those) which) last.0 came)
-      | inr there ↦ once prior repeat there.behind which there.whole is came
-    ]
-
 -- a statement comes a second time, or none does
 abbrev pub RepeatedOrNot : List Statement → Type 0
 RepeatedOrNot all = ((which : Single) × ((place : ℕ) × IsRepeated all which place)) ⊎ StandOnce all
@@ -165,10 +155,10 @@ repeated_or_not before (x ∷ rest) once = by (single_of x) refl (repeated_or_no
       ),
     )
     by_has which e (inr new) later =
-        goes_on (once_more before x once (λ other is c. new (subst (λ one. Contains (singles before) one) (same_Some other which (sym is ∙ e)) c))) later
+        goes_on (stand_once_more before x once (λ other is c. new (subst (λ one. Contains (singles before) one) (same_Some other which (sym is ∙ e)) c))) later
 
     by : (o : Option Single) → single_of x ≡ o → (StandOnce (before ++ x ∷ []) → RepeatedOrNot ((before ++ x ∷ []) ++ rest)) → RepeatedOrNot (before ++ x ∷ rest)
-    by None e later = goes_on (once_more before x once (λ other is c. absurd (none-some other (sym e ∙ is)))) later
+    by None e later = goes_on (stand_once_more before x once (λ other is c. absurd (none-some other (sym e ∙ is)))) later
     by (Some which) e later = by_has which e (has_or_not (singles before) which) later
 
 pub none_once : StandOnce []

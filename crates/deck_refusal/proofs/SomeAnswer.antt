@@ -13,8 +13,8 @@ use Rattle.deck_grammar.specs.Rules.{Part}
 use Rattle.deck_grammar.specs.Spelling.{SpellsDeck}
 use Rattle.deck_grammar.specs.Refusals.{refusal_at, Stand, IsRefused, at_token, at_end, missing, repeated, IsAccepted}
 use Rattle.deck_cursor.specs.Places.{lexemes}
-use Rattle.deck_front.specs.Stacks.{Among, here, later, Empties}
-use Rattle.deck_front.proofs.Following.{ends_as_deck, deck_may_end, decided}
+use Rattle.deck_stacks.specs.Stacks.{Among, here, later, Empties}
+use Rattle.deck_stacks.proofs.Following.{ends_as_deck, deck_may_end, decided}
 use Rattle.deck_refusal.specs.Refused.{refusal_for, IsTextRefused, too_long, no_token, by_tokens, IsTextAccepted}
 use Rattle.deck_refusal.proofs.Singles.{missing_or_not, repeated_or_not, none_once}
 use Rattle.deck_refusal.proofs.Walked.{Stands, nothing_stands, Ends, goes_wrong, comes_to_end, walked}

@@ -1,35 +1,12 @@
 -- Tokens one after the other.
-use Rattle.std.proofs.Common.{◌≡◌, inl, inr, ℕ, ◌<◌, ◌≤◌, List, [], ◌∷◌, ◌++◌, length, drop, Option, Some, None, Result, Ok, Err, sym, ap, subst, append_assoc, append-nil, length-append, arith}
+use Rattle.std.proofs.Common.{◌≡◌, ℕ, ◌<◌, ◌≤◌, List, [], ◌∷◌, ◌++◌, length, drop, Option, Some, None, Result, Ok, Err, sym, subst, append_assoc, append-nil}
 use Rattle.std.specs.Prelude.{IfSome, IfNone}
 use Rattle.deck_lexer.specs.declared.token.Token.{Token}
-use Rattle.deck_lexer.specs.declared.token.TokenKind.{TokenKind}
-use Rattle.deck_lexer.specs.declared.token.TokenKind.TheVariants as tokens
 use Rattle.deck_lexer.specs.declared.token.LexFault.{LexFault}
-use Rattle.deck_lexer.specs.Tokens.{IsSpelling, Comes, Lexes, lexes, IsFirstFact}
+use Rattle.deck_lexer.specs.Tokens.{Comes, Lexes, lexes, IsFirstFact}
+use Rattle.deck_lexer.proofs.TokenLaws.{token_ends}
 use Rattle.deck_cursor.specs.Inside.{IsUpcoming}
 use Rattle.deck_refusal.specs.Working.Walking.{LexedTo}
-
-spelled_some : (k : TokenKind) (s : List ℕ) → IsSpelling k s → 0 < length s
-spelled_some tokens.Word s h = omega (arith, ap length h.2)
-spelled_some tokens.Number s h = elim h.4 [
-  | inl whole ↦ omega (arith, ap length whole.0, whole.1)
-  | inr both ↦ omega (arith, ap length both.0, length-append h.0 (46 ∷ h.1))
-]
-spelled_some tokens.Text s h = omega (arith, ap length h.1)
-spelled_some tokens.Note s h = omega (arith, ap length h.1)
-spelled_some tokens.Sign s h = elim h.1 [
-  | inl one ↦ omega (arith, ap length one.0)
-  | inr two ↦ omega (arith, ap length two.0)
-]
-
--- a token ends behind the offset at which it is looked for
-goes_on : (text : List ℕ) (at : ℕ) (t : Token) → Comes at (drop at text) (Ok (Some t)) → at < t.end
-goes_on text at t comes = omega (
-  arith,
-  comes.stands.start,
-  comes.stands.end,
-  spelled_some t.kind comes.stands.spelled comes.stands.spelling,
-)
 
 pub none_yet : (text : List ℕ) → LexedTo text 0 []
 none_yet text more last h = h
@@ -54,7 +31,7 @@ abbrev pub Lexed : List ℕ → ℕ → Type 0
 Lexed text at = (at ≤ length text) × ((before : List Token) × LexedTo text at before)
 
 upcoming_ends : (text : List ℕ) (at : ℕ) (t : Token) → IsUpcoming text at (Some t) → at < t.end
-upcoming_ends text at t u = goes_on text at t u.0
+upcoming_ends text at t u = token_ends text at t u.0
 
 pub lexed_more : (text : List ℕ) (at : ℕ) (r : Option Token) (t : Token) → r ≡ Some t → IsUpcoming text at r
     → Lexed text at → Lexed text t.end

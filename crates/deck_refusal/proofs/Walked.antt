@@ -15,10 +15,10 @@ use Rattle.deck_grammar.specs.Lexemes.{Lexeme, lexeme}
 use Rattle.deck_grammar.specs.Rules.{Part, rule, statements}
 use Rattle.deck_grammar.specs.Spelling.{nothing}
 use Rattle.deck_grammar.specs.Refusals.{open_behind, IsTooDeep, Stand, AwaitsPrimary, IsSetAside, IsWrong, set_aside, no_place, too_deep}
-use Rattle.deck_cursor.specs.Working.Numbers.{same_kind}
-use Rattle.deck_cursor.proofs.Numbering.{same_is, is_same}
-use Rattle.deck_front.specs.Stacks.{Behind}
-use Rattle.deck_front.proofs.Following.{at_first, behind_more, some_next, viable_has_stacks, stacks_are_viable}
+use Rattle.deck_grammar.specs.Working.Numbers.{same_kind}
+use Rattle.deck_grammar.proofs.Numbering.{same_is, is_same}
+use Rattle.deck_stacks.specs.Stacks.{Behind}
+use Rattle.deck_stacks.proofs.Following.{at_first, behind_more, some_next, viable_has_stacks, stacks_are_viable}
 use Rattle.deck_refusal.specs.Working.Recent.{latest}
 use Rattle.deck_refusal.specs.Working.SetAside.{is_set_aside}
 use Rattle.deck_refusal.proofs.Choices.{set_aside_is, is_set_aside_so}

@@ -6,7 +6,7 @@ ghost use Rattle.deck_lexer.specs.Tokens.{Comes, lexes, IsFirstFact};
 ghost use Rattle.deck_cursor.specs.Inside.{IsUpcoming};
 ghost use Rattle.deck_refusal.specs.Refused.{refusal_for};
 
-use crate::lexed::upcoming;
+use deck_cursor::upcoming;
 use deck_lexer::{LexFault, next};
 use deck_tree::{DeckKind, DeckRefusal};
 

@@ -15,7 +15,6 @@ mod ends;
 mod fact;
 mod lacking;
 mod laws;
-mod lexed;
 mod recent;
 mod set_aside;
 mod walk;

@@ -3,8 +3,7 @@
 ghost use Rattle.std.specs.Prelude.{◌≡◌, ◌∷◌, map, take, IfOk};
 ghost use Rattle.deck_refusal.specs.Working.Recent.{begins_with, begins_with_one};
 
-use deck_cursor::is_same;
-use deck_grammar::Kind;
+use deck_grammar::{Kind, is_same};
 use std::alloc::AllocError;
 
 /// How many of them tell what is set aside.

@@ -5,9 +5,9 @@ ghost use Rattle.deck_grammar.specs.Lexemes.{Lexeme, lexeme};
 ghost use Rattle.deck_grammar.specs.Refusals.{AwaitsPrimary};
 ghost use Rattle.deck_refusal.specs.Working.Walking.{HasCome, GoesTo, Misplaced};
 
-use crate::lexed::brackets_behind;
 use crate::recent::remember;
 use crate::set_aside::is_set_aside;
+use deck_cursor::brackets_behind;
 use deck_grammar::{Keyword, Kind};
 use deck_stacks::Stacks;
 use deck_tree::{Counted, DeckKind};

@@ -9,8 +9,8 @@ ghost use Rattle.deck_refusal.specs.Refused.{IsTextRefused, IsSpelled};
 ghost use Rattle.deck_refusal.specs.Working.Walking.{IsWrongText, EndsAs};
 
 use crate::fact::{first_fact, refusal_for};
-use crate::lexed::{bytes_of, kind_in, upcoming};
 use crate::walk::{Gone, Walk};
+use deck_cursor::{bytes_of, kind_in, upcoming};
 use deck_lexer::LONGEST_DECK;
 use deck_tree::{DeckKind, DeckRefusal};
 use std::alloc::{AllocError, Global};

@@ -3,9 +3,9 @@ use Rattle.std.proofs.Common.{◌≡◌, inl, inr, ◌||◌, Bool, IsTrue, true,
 use Rattle.std.specs.Prelude.{◌↔◌}
 use Rattle.std.proofs.lemmas.Bool.{cases_Bool}
 use Rattle.deck_grammar.specs.Rules as r
-use Rattle.deck_front.specs.Stacks.{Among, here, later, Empties}
-use Rattle.deck_front.specs.Working.Deriving.{all_empty}
-use Rattle.deck_front.proofs.Emptying.{empties_all, all_empties}
+use Rattle.deck_stacks.specs.Stacks.{Among, here, later, Empties}
+use Rattle.deck_stacks.specs.Working.Deriving.{all_empty}
+use Rattle.deck_stacks.proofs.Emptying.{empties_all, all_empties}
 use Rattle.deck_stacks.specs.Working.Opening.{some_empty}
 
 abbrev MayEnd : List (List r.Part) → Type 0

@@ -2,8 +2,8 @@
 use Rattle.std.proofs.Common.{◌≡◌, ◌≤◌, ℕ, ◌-◌, ◌&&◌, Bool, true, false, List, [], ◌∷◌, ◌++◌, map, reverse, take, drop, length, refl, sym, ap, ◌∙◌, arith}
 use Rattle.std.proofs.lemmas.List.{reverse-append, length-reverse, take-append-drop, drop_at, drop-map, length-drop, length-map, map-append}
 use Rattle.deck_grammar.specs.Rules as r
-use Rattle.deck_front.specs.Working.Tables.{may_be_empty}
-use Rattle.deck_front.specs.Working.Deriving.{all_empty}
+use Rattle.deck_stacks.specs.Working.Tables.{may_be_empty}
+use Rattle.deck_stacks.specs.Working.Deriving.{all_empty}
 use Rattle.deck_stacks.specs.declared.part.Part.{Part}
 use Rattle.deck_stacks.specs.Parts.{part_of, from_top}
 use Rattle.deck_stacks.specs.Working.Opening.{is_empty_way, each_empty}

@@ -8,12 +8,12 @@ use Rattle.deck_grammar.specs.declared.kind.Kind.{Kind}
 use Rattle.deck_grammar.specs.declared.keyword.Keyword.TheVariants as k
 use Rattle.deck_grammar.specs.declared.sign.Sign.TheVariants as s
 use Rattle.deck_grammar.specs.Rules.{Part, left, word, sign, rule, token, options, value}
-use Rattle.deck_cursor.specs.Working.Numbers.{same_kind}
-use Rattle.deck_cursor.proofs.Numbering.{same_is, is_same}
-use Rattle.deck_front.specs.Working.Tables.{parts_of}
-use Rattle.deck_front.specs.Working.Deriving.{derive, derive_all}
-use Rattle.deck_front.specs.Stacks.{AreNext}
-use Rattle.deck_front.proofs.Following.{are_derived}
+use Rattle.deck_grammar.specs.Working.Numbers.{same_kind}
+use Rattle.deck_grammar.proofs.Numbering.{same_is, is_same}
+use Rattle.deck_stacks.specs.Working.Tables.{parts_of}
+use Rattle.deck_stacks.specs.Working.Deriving.{derive, derive_all}
+use Rattle.deck_stacks.specs.Stacks.{AreNext}
+use Rattle.deck_stacks.proofs.Following.{are_derived}
 use Rattle.deck_stacks.specs.Working.Opening.{token_of}
 
 -- what is made of each alternative of options, one after the other

@@ -1,3 +1,4 @@
+pub mod Stacks
 pub mod Parts
 pub mod Stacked
 pub mod Working

@@ -4,15 +4,14 @@ ghost use Rattle.std.specs.Prelude.{◌≡◌, ◌++◌, ◌*◌, ◌∷◌, [],
 ghost use Rattle.std.specs.Bool.{OnTrue};
 ghost use Rattle.std.specs.List.{flat_map};
 ghost use Rattle.deck_grammar.specs.Rules as r;
-ghost use Rattle.deck_cursor.specs.Working.Numbers.{same_kind};
-ghost use Rattle.deck_front.specs.Working.Deriving.{derive, derive_all};
+ghost use Rattle.deck_grammar.specs.Working.Numbers.{same_kind};
+ghost use Rattle.deck_stacks.specs.Working.Deriving.{derive, derive_all};
 ghost use Rattle.deck_stacks.specs.Parts.{rule_of, left_of, part_of};
 
 use crate::part::{Left, Part, Rule};
 use crate::stack::Stack;
 use crate::table::alternatives;
-use deck_cursor::is_same;
-use deck_grammar::{Keyword, Kind, Sign};
+use deck_grammar::{Keyword, Kind, Sign, is_same};
 use std::alloc::{AllocError, Global};
 
 /// A token whose ways are looked for.

@@ -1,7 +1,7 @@
 //! The parts of the grammar's alternatives.
 
 ghost use Rattle.std.specs.Prelude.{◌≡◌};
-ghost use Rattle.deck_front.specs.Working.Tables.{may_be_empty};
+ghost use Rattle.deck_stacks.specs.Working.Tables.{may_be_empty};
 ghost use Rattle.deck_stacks.specs.Parts.{rule_of, part_of};
 ghost use Rattle.deck_stacks.specs.Working.Opening.{token_of, is_empty_way};
 

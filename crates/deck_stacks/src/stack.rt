@@ -1,7 +1,7 @@
 //! A stack of parts.
 
 ghost use Rattle.std.specs.Prelude.{◌≡◌, ◌≤◌, [], ◌∷◌, ◌++◌, length, map, drop, IfOk, IfSome, IfNone};
-ghost use Rattle.deck_front.specs.Working.Deriving.{all_empty};
+ghost use Rattle.deck_stacks.specs.Working.Deriving.{all_empty};
 ghost use Rattle.deck_stacks.specs.Parts.{part_of};
 ghost use Rattle.deck_stacks.specs.Working.Opening.{each_empty};
 

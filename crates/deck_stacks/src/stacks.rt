@@ -2,7 +2,7 @@
 
 ghost use Rattle.std.specs.Prelude.{◌≡◌, [], ◌∷◌, ◌↔◌, IsTrue, IfOk, List};
 ghost use Rattle.deck_grammar.specs.Rules as r;
-ghost use Rattle.deck_front.specs.Stacks.{Among, Empties, AreNext};
+ghost use Rattle.deck_stacks.specs.Stacks.{Among, Empties, AreNext};
 ghost use Rattle.deck_stacks.specs.Working.Opening.{some_empty};
 
 use crate::opening::Taking;

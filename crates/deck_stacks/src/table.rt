@@ -1,7 +1,7 @@
 //! The alternatives of each rule.
 
 ghost use Rattle.std.specs.Prelude.{◌≡◌, map};
-ghost use Rattle.deck_front.specs.Working.Tables.{parts_of};
+ghost use Rattle.deck_stacks.specs.Working.Tables.{parts_of};
 ghost use Rattle.deck_grammar.specs.Rules as r;
 ghost use Rattle.deck_stacks.specs.Parts.{rule_of, part_of};
 

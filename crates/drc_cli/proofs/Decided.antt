@@ -1,8 +1,6 @@
--- What is decided of a check, from what was read.
-use Rattle.std.proofs.Common.{◌≡◌, ℕ, ℤ, ◌<◌, ◌≤◌, ◌+◌, List, [], ◌∷◌, ◌++◌, length, map, Bool, IsTrue, Result, Ok, Err, inl, inr, refl, sym, ap, subst, ◌∙◌, arith, length-append, string_bytes}
+-- What is decided of a command, from what was read.
+use Rattle.std.proofs.Common.{◌≡◌, ℕ, ℤ, List, [], ◌∷◌, map, Bool, Ok, Err, inl, inr, refl, sym, ap, subst, ◌∙◌, arith}
 use Rattle.std.specs.Global.{Vec}
-use Rattle.std.proofs.lemmas.Bool.{cases_lt}
-use Rattle.std.proofs.lemmas.List.{append-nil}
 use Rattle.gds_records.specs.declared.fault.LayoutRefusal.{LayoutRefusal}
 use Rattle.drc_geom.specs.declared.rect.Rect.{Rect}
 use Rattle.drc_geom.specs.declared.run.Run.{Run}
@@ -13,42 +11,61 @@ use Rattle.drc_ports.specs.Counts.{one_more}
 use Rattle.drc_ports.specs.Files.{Tally, Contents, World}
 use Rattle.drc_cli.specs.declared.answer.Status.TheVariants as status
 use Rattle.drc_cli.specs.declared.answer.Which.TheVariants as which
-use Rattle.drc_cli.specs.declared.deck.FirstDeck.{FirstDeck}
+use Rattle.deck_tree.specs.declared.deck.Deck.{Deck}
+use Rattle.deck_tree.specs.declared.refusal.DeckRefusal.{DeckRefusal}
+use Rattle.deck_printer.specs.Canonical.{canonical}
+use Rattle.deck_refusal.specs.Refused.{IsTextRefused}
+use Rattle.first_form.specs.declared.served.FirstDeck.{FirstDeck}
+use Rattle.first_form.specs.FirstForm.{ServedDeck, IsFirstForm, units_of, precision, limit}
+use Rattle.first_form.specs.Reading.{IsReadingOf}
 use Rattle.drc_cli.specs.declared.ending.Ending.{Ending}
 use Rattle.drc_cli.specs.declared.ending.Ending.TheVariants as ending
 use Rattle.drc_cli.specs.declared.ready.Ready.{Ready}
 use Rattle.drc_cli.specs.CheckMeaning.{CheckLeads, Reports, results_of, unserved_deck}
-use Rattle.drc_cli.specs.Command.{CheckRequest}
-use Rattle.deck_lexer.specs.Sizes.{longest_deck}
-use Rattle.drc_cli.specs.Deck.{Deck, Spells, input_of, units_of, precision, limit}
-use Rattle.drc_cli.specs.Working.DeckAnswer.{IsReadingOf}
-use Rattle.drc_cli.specs.Working.Decide.{Leaves, FailsAt, last_steps, results_in, IsDeckRead, IsLayoutRead, IsReady, IsDecided}
+use Rattle.drc_cli.specs.Command.{Command, check, format, CheckRequest, FormatRequest}
+use Rattle.drc_cli.specs.Deck.{Spells}
+use Rattle.drc_cli.specs.DeckMeaning.{SaysRefusal}
+use Rattle.drc_cli.specs.Meaning.{Leads}
+use Rattle.drc_cli.specs.Working.Decide.{results_in, IsDeckRead, IsLayoutRead, IsReady, IsEnded, IsDecided, IsPrinted}
 use Rattle.drc_cli.specs.Layout.{Element, Accepts, Refuses, drawn}
-use Rattle.drc_cli.specs.Lines.{deck_line, layout_line}
-use Rattle.drc_cli.specs.Outcome.{Outcome, Step, reads, writes, says}
+use Rattle.drc_cli.specs.Lines.{IsDetail, deck_line, layout_line}
+use Rattle.drc_cli.specs.Outcome.{Outcome, reads, writes, says}
 use Rattle.drc_cli.specs.ProgramEnds.{OnlyReads}
 use Rattle.drc_cli.specs.ShortRuns.{IsShortRun}
 use Rattle.drc_cli.specs.Text.{CheckResults, run, results_text, said_text}
 use Rattle.drc_cli.specs.Steps.{IsDone, AreDone, Fails}
 use Rattle.drc_cli.proofs.ShortRuns.{short_same}
-use Rattle.drc_cli.proofs.Empty.{empty_deck, empty_layout, truncated}
+use Rattle.drc_cli.proofs.DeckRead.{one_of_two}
+use Rattle.drc_cli.proofs.Empty.{empty_deck, nothing_there, what_is_missing, empty_layout, truncated}
 
--- ---- The outcomes of a check
+-- ---- The outcomes of a command
 
-deck_refused : (request : CheckRequest) (deck : List ℕ) → Outcome
-deck_refused request deck = record { status = status.Deck unserved_deck; steps = reads which.Deck request.deck deck ∷ says (deck_line unserved_deck) ∷ [] }
+-- the name of the deck that a command reads
+abbrev pub deck_name : Command → List ℕ
+deck_name (check request) = request.deck
+deck_name (format request) = request.deck
 
-deck_refused_leads : (request : CheckRequest) (deck : List ℕ) → ((d : Deck) → Spells request.deck deck d → ⊥) → CheckLeads request (deck_refused request deck)
+unfoldable pub deck_refused : (name text : List ℕ) (refusal : DeckRefusal) (detail : List ℕ) → Outcome
+deck_refused name text refusal detail = record { status = status.Deck refusal; steps = reads which.Deck name text ∷ says (deck_line refusal detail) ∷ [] }
+
+pub says_refusal : (name text : List ℕ) (refusal : DeckRefusal) (detail : List ℕ) → IsDetail text refusal detail → SaysRefusal name text refusal (deck_refused name text refusal detail)
 unfolding deck_refused
-deck_refused_leads request deck unserved = inr (inl (record { deck = deck; unserved = unserved; status_is = refl; steps_are = refl }))
+says_refusal name text refusal detail is = record { detail = detail; detail_is = is; status_is = refl; steps_are = refl }
 
-layout_refused : (request : CheckRequest) (deck : List ℕ) (d : Deck) (bytes : List ℕ) (refusal : LayoutRefusal) → Outcome
+pub text_refused_leads : (command : Command) (text : List ℕ) (refusal : DeckRefusal) (detail : List ℕ) → IsTextRefused text refusal → IsDetail text refusal detail
+    → Leads command (deck_refused (deck_name command) text refusal detail)
+text_refused_leads (check request) text refusal detail refused is =
+    inr (inl (record { deck = text; refusal = refusal; refused = inl refused; said = says_refusal request.deck text refusal detail is }))
+text_refused_leads (format request) text refusal detail refused is =
+    inr (record { text = text; refusal = refusal; refused = refused; said = says_refusal request.deck text refusal detail is })
+
+layout_refused : (request : CheckRequest) (deck : List ℕ) (d : ServedDeck) (bytes : List ℕ) (refusal : LayoutRefusal) → Outcome
 layout_refused request deck d bytes refusal = record {
   status = status.Layout refusal;
   steps = reads which.Deck request.deck deck ∷ reads which.Layout d.layout bytes ∷ says (layout_line refusal) ∷ [];
 }
 
-layout_refused_leads : (request : CheckRequest) (deck : List ℕ) (d : Deck) (bytes : List ℕ) (refusal : LayoutRefusal) → Spells request.deck deck d
+layout_refused_leads : (request : CheckRequest) (deck : List ℕ) (d : ServedDeck) (bytes : List ℕ) (refusal : LayoutRefusal) → Spells request.deck deck d
     → Refuses d.primary bytes refusal → CheckLeads request (layout_refused request deck d bytes refusal)
 unfolding layout_refused
 layout_refused_leads request deck d bytes refusal spelled refused = inr (inr (record {
@@ -64,57 +81,71 @@ layout_refused_leads request deck d bytes refusal spelled refused = inr (inr (re
 
 -- ---- The deck
 
-pub deck_ended : (request : CheckRequest) (end : Ending) (tells : Bool) (old new : World) → IsDeckRead request.deck (Err end) tells old new → IsDecided request (Err end) tells old new
+pub deck_ended : (command : Command) (end : Ending) (tells : Bool) (old new : World) → IsDeckRead (deck_name command) (Err end) tells old new → IsEnded command end tells old new
 unfolding deck_refused
-deck_ended request (ending.Deck refusal) tells old new read = absurd read
-deck_ended request (ending.Layout refusal) tells old new read = absurd read
-deck_ended request (ending.ReadFault which.Deck name) tells old new read = (
-  deck_refused request [],
-  deck_refused_leads request [] (empty_deck request.deck),
+deck_ended command (ending.Deck refusal detail) tells old new (text, refused, is, read) = (
+  deck_refused (deck_name command) text refusal detail,
+  text_refused_leads command text refusal detail refused is,
+  refl,
+  record { before = reads which.Deck (deck_name command) text ∷ []; steps = refl; done = (new, read, refl) },
+)
+deck_ended command (ending.Layout refusal) tells old new read = absurd read
+deck_ended command (ending.ReadFault which.Deck name) tells old new read = (
+  deck_refused (deck_name command) [] nothing_there what_is_missing,
+  text_refused_leads command [] nothing_there what_is_missing empty_deck refl,
   record {
-    behind = says (deck_line unserved_deck) ∷ [];
+    behind = says (deck_line nothing_there what_is_missing) ∷ [];
     at = old;
-    left = record { before = []; steps = ap (λ (n : List ℕ). reads which.Deck n [] ∷ says (deck_line unserved_deck) ∷ []) (sym read.0); done = refl };
+    left = record { before = []; steps = ap (λ (n : List ℕ). reads which.Deck n [] ∷ says (deck_line nothing_there what_is_missing) ∷ []) (sym read.0); done = refl };
     fails = subst (λ (n : List ℕ). Fails tells (reads which.Deck n []) old new) (sym read.0) read.1;
   },
 )
-deck_ended request (ending.ReadFault which.Layout name) tells old new read = absurd read
-deck_ended request (ending.ReadFault which.Results name) tells old new read = absurd read
-deck_ended request (ending.ReadFault which.Output name) tells old new read = absurd read
-deck_ended request ending.Memory tells old new read = record {
-  read_faults = read.read_faults;
-  write_faults = read.write_faults;
-  say_faults = read.say_faults;
-  writing = read.writing;
-  begun = omega (arith, read.begun);
-  contents = read.contents;
-}
+deck_ended command (ending.ReadFault which.Layout name) tells old new read = absurd read
+deck_ended command (ending.ReadFault which.Results name) tells old new read = absurd read
+deck_ended command (ending.ReadFault which.Output name) tells old new read = absurd read
+deck_ended command ending.Memory tells old new read = one_of_two tells old new read
 
-pub deck_unserved : (request : CheckRequest) (text : Vec ℕ) (tells : Bool) (old new : World) → IsDeckRead request.deck (Ok text) tells old new
-    → ((d : Deck) → Spells request.deck text.items d → ⊥) → IsDecided request (Err (ending.Deck unserved_deck)) tells old new
+pub deck_unserved : (request : CheckRequest) (deck : Deck) (detail : List ℕ) (tells : Bool) (old new : World) → IsDeckRead request.deck (Ok deck) tells old new
+    → ((d : ServedDeck) → IsFirstForm request.deck deck d → ⊥) → detail ≡ [] → IsDecided (check request) (Err (ending.Deck unserved_deck detail)) tells old new
 unfolding deck_refused
-deck_unserved request text tells old new (rest, short, read) unserved = (
-  deck_refused request (text.items ++ rest),
-  deck_refused_leads request (text.items ++ rest) (λ d spells. elim (cases_lt longest_deck (length text.items)) [
-    | inl long ↦ omega (arith, spells.size, length-append text.items rest)
-    | inr few ↦ unserved d (subst (λ (t : List ℕ). Spells request.deck t d) (ap (λ (r : List ℕ). text.items ++ r) (short few) ∙ append-nil text.items) spells)
-  ]),
+deck_unserved request deck detail tells old new (text, is_deck, read) none empty = (
+  deck_refused request.deck text unserved_deck detail,
+  inr (inl (record {
+    deck = text;
+    refusal = unserved_deck;
+    refused = inr (record { deck = deck; is_deck = is_deck; no_form = none }, refl);
+    said = says_refusal request.deck text unserved_deck detail empty;
+  })),
   refl,
-  record { before = reads which.Deck request.deck (text.items ++ rest) ∷ []; steps = refl; done = (new, read, refl) },
+  record { before = reads which.Deck request.deck text ∷ []; steps = refl; done = (new, read, refl) },
+)
+
+-- the text that is to be said
+pub printed : (request : FormatRequest) (deck : Deck) (said : Vec ℕ) (tells : Bool) (old new : World) → IsDeckRead request.deck (Ok deck) tells old new
+    → said.items ≡ canonical deck → IsPrinted (format request) (Ok said) tells old new
+printed request deck said tells old new (text, is_deck, read) is = (
+  record { status = status.Done; steps = reads which.Deck request.deck text ∷ says (canonical deck) ∷ [] },
+  inl (record { text = text; deck = deck; is_deck = is_deck; status_is = refl; steps_are = refl }),
+  refl,
+  record {
+    before = reads which.Deck request.deck text ∷ [];
+    steps = ap (λ (t : List ℕ). reads which.Deck request.deck text ∷ says t ∷ []) (sym is);
+    done = (new, read, refl);
+  },
 )
 
 -- ---- The layout
 
-module _ (request : CheckRequest) (tells : Bool) (old at new : World) (text : Vec ℕ) (deck_read : IsDeckRead request.deck (Ok text) tells old at) (found : FirstDeck) (is_deck : (d : Deck) × Spells request.deck text.items d × IsReadingOf found d) where
-  d : Deck
-  d = is_deck.0
+module _ (request : CheckRequest) (tells : Bool) (old at new : World) (tree : Deck) (deck_read : IsDeckRead request.deck (Ok tree) tells old at) (found : FirstDeck) (is_form : (d : ServedDeck) × IsFirstForm request.deck tree d × IsReadingOf found d) where
+  d : ServedDeck
+  d = is_form.0
 
   deck : List ℕ
-  deck = text.items ++ deck_read.0
+  deck = deck_read.0
 
   spelled : Spells request.deck deck d
   unfolding d deck
-  spelled = subst (λ (t : List ℕ). Spells request.deck t is_deck.0) (sym (ap (λ (r : List ℕ). text.items ++ r) (deck_read.1 is_deck.1.size) ∙ append-nil text.items)) is_deck.1
+  spelled = record { deck = tree; is_deck = deck_read.1; form = is_form.1 }
 
   deck_done : IsDone tells (reads which.Deck request.deck deck) old at
   unfolding deck
@@ -122,7 +153,7 @@ module _ (request : CheckRequest) (tells : Bool) (old at new : World) (text : Ve
 
   reading : IsReadingOf found d
   unfolding d
-  reading = is_deck.2
+  reading = is_form.2
 
   both_done : (bytes : List ℕ) → IsDone tells (reads which.Layout found.layout.now bytes) at new
       → AreDone tells (reads which.Deck request.deck deck ∷ reads which.Layout d.layout bytes ∷ []) old new
@@ -145,9 +176,9 @@ module _ (request : CheckRequest) (tells : Bool) (old at new : World) (text : Ve
         contents = λ told. read.contents told ∙ ap (λ (c : Contents). record c { left = new.contents.left }) ((deck_done.contents told).1);
       }
 
-  pub layout_ended : (end : Ending) → IsLayoutRead found (Err end) tells at new → IsDecided request (Err end) tells old new
+  pub layout_ended : (end : Ending) → IsLayoutRead found (Err end) tells at new → IsDecided (check request) (Err end) tells old new
   unfolding layout_refused
-  layout_ended (ending.Deck refusal) read = absurd read
+  layout_ended (ending.Deck refusal detail) read = absurd read
   layout_ended (ending.Layout refusal) read = (
     layout_refused request deck d read.0 refusal,
     layout_refused_leads request deck d read.0 refusal spelled (subst (λ (p : List ℕ). Refuses p read.0 refusal) reading.primary read.1),
@@ -206,7 +237,7 @@ module _ (request : CheckRequest) (tells : Bool) (old at new : World) (text : Ve
   }
 
   pub ready_to_write : (rects : Vec Rect) (ready : Ready) → IsLayoutRead found (Ok rects) tells at new → IsReady request.date found rects.items ready
-      → IsDecided request (Ok ready) tells old new
+      → IsDecided (check request) (Ok ready) tells old new
   unfolding served
   ready_to_write rects ready read is = (
     served ready read.0,

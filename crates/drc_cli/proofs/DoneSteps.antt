@@ -1,20 +1,13 @@
 -- What steps leave as it was: those that are done, those that fail, and those that make no file.
-use Rattle.std.proofs.Common.{◌≡◌, ℕ, ◌≤◌, List, [], ◌∷◌, ◌++◌, Bool, IsTrue, Option, Some, inl, inr, ◌⊎◌, refl, sym, ap, subst, ◌∙◌, arith}
+use Rattle.std.proofs.Common.{◌≡◌, ℕ, List, [], ◌∷◌, Bool, IsTrue, Option, inl, inr, ap, subst, ◌∙◌, arith}
 use Rattle.std.specs.List.{AllByRecursion}
 use Rattle.drc_ports.specs.Counts.{one_more, Rose}
-use Rattle.drc_ports.specs.Files.{Tally, Contents, World, HasNow}
-use Rattle.drc_cli.specs.declared.answer.Status.{Status}
-use Rattle.drc_cli.specs.declared.answer.Status.TheVariants as status
+use Rattle.drc_ports.specs.Files.{Tally, Contents, World}
 use Rattle.drc_cli.specs.declared.answer.Which.{Which}
-use Rattle.drc_cli.specs.declared.answer.Which.TheVariants as which
-use Rattle.drc_cli.specs.CheckMeaning.{CheckLeads, IsServed}
-use Rattle.drc_cli.specs.Command.{CheckRequest, Command, check, Asks, AsksForCheck, AreRefused}
-use Rattle.drc_cli.specs.Lines.{words_line}
-use Rattle.drc_cli.specs.Meaning.{Means, Leads, IsHeld, Due, refused_words}
-use Rattle.drc_cli.specs.Outcome.{Outcome, Step, reads, writes, says}
-use Rattle.drc_cli.specs.ProgramEnds.{Ends, EndsAs, IsWhole, IsCut, IsUnsaid, IsOutOfMemory, OnlyReads, IsFaultOf, unsaid, HasResults, IsRefusal, MakesNothing, NoneFailed}
-use Rattle.drc_cli.proofs.OneOutcome.{one_outcome}
-use Rattle.drc_cli.specs.Steps.{Changes, tally_after, IsDone, AreDone, Fails, IsUnopened, IsBrokenOff, IsTried}
+use Rattle.drc_cli.specs.Meaning.{IsHeld}
+use Rattle.drc_cli.specs.Outcome.{Step, reads, writes, says}
+use Rattle.drc_cli.specs.ProgramEnds.{MakesNothing}
+use Rattle.drc_cli.specs.Steps.{IsDone, AreDone, Fails, IsTried}
 
 -- ---- What steps that are done leave as it was
 

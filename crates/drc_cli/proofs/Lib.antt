@@ -1,8 +1,3 @@
-mod DeckFields
-mod DeckNumbers
-mod DeckLines
-mod DeckLaws
-mod DeckFound
 mod LayoutSlots
 mod LayoutForms
 mod LayoutSteps
@@ -14,10 +9,13 @@ mod Names
 mod StepLaws
 mod Settings
 mod Empty
+mod DeckRead
 mod Decided
 mod Ended
 mod SomeResults
+mod OneText
 mod OneOutcome
+mod SomeOutcome
 mod DoneSteps
 mod ReadsFirst
 mod EndLaws

@@ -6,7 +6,7 @@ use Rattle.std.proofs.lemmas.Bool.{cases_lt}
 use Rattle.std.proofs.lemmas.List.{get_or_past}
 use Rattle.drc_ports.specs.declared.failed.Failed.{Failed}
 use Rattle.drc_ports.specs.Files.{Contents, BeginsRead}
-use Rattle.drc_cli.specs.Deck.{IsFileName, is_file_byte}
+use Rattle.first_form.specs.FirstForm.{IsFileName, is_file_byte}
 
 file_byte_small : (c : ℕ) → is_file_byte c ≡ true → c < 128
 file_byte_small c e = grind arith

@@ -1,20 +1,12 @@
 -- The steps of an outcome: what is read comes first, so nothing is made before a read.
-use Rattle.std.proofs.Common.{◌≡◌, ℕ, ◌≤◌, List, [], ◌∷◌, ◌++◌, Bool, IsTrue, Option, Some, inl, inr, ◌⊎◌, refl, sym, ap, subst, ◌∙◌, arith}
+use Rattle.std.proofs.Common.{ℕ, List, [], ◌∷◌, ◌++◌, Option, inl, inr, sym, subst}
 use Rattle.std.specs.List.{AllByRecursion}
-use Rattle.drc_ports.specs.Counts.{one_more, Rose}
-use Rattle.drc_ports.specs.Files.{Tally, Contents, World, HasNow}
-use Rattle.drc_cli.specs.declared.answer.Status.{Status}
-use Rattle.drc_cli.specs.declared.answer.Status.TheVariants as status
 use Rattle.drc_cli.specs.declared.answer.Which.{Which}
-use Rattle.drc_cli.specs.declared.answer.Which.TheVariants as which
-use Rattle.drc_cli.specs.CheckMeaning.{CheckLeads, IsServed}
-use Rattle.drc_cli.specs.Command.{CheckRequest, Command, check, Asks, AsksForCheck, AreRefused}
-use Rattle.drc_cli.specs.Lines.{words_line}
-use Rattle.drc_cli.specs.Meaning.{Means, Leads, IsHeld, Due, refused_words}
+use Rattle.drc_cli.specs.CheckMeaning.{CheckLeads}
+use Rattle.drc_cli.specs.Command.{CheckRequest, FormatRequest, check, format}
+use Rattle.drc_cli.specs.FormatMeaning.{FormatLeads}
+use Rattle.drc_cli.specs.Meaning.{Means, IsHeld}
 use Rattle.drc_cli.specs.Outcome.{Outcome, Step, reads, writes, says}
-use Rattle.drc_cli.specs.ProgramEnds.{Ends, EndsAs, IsWhole, IsCut, IsUnsaid, IsOutOfMemory, OnlyReads, IsFaultOf, unsaid, HasResults, IsRefusal, MakesNothing, NoneFailed}
-use Rattle.drc_cli.proofs.OneOutcome.{one_outcome}
-use Rattle.drc_cli.specs.Steps.{Changes, tally_after, IsDone, AreDone, Fails, IsUnopened, IsBrokenOff, IsTried}
 use Rattle.drc_cli.proofs.DoneSteps.{MakesNone}
 
 -- ---- The steps of an outcome: what is read comes first
@@ -69,10 +61,16 @@ held_without_reads held (says t ∷ steps) all = (tt, held_without_reads held st
 pub check_reads_first : (request : CheckRequest) (outcome : Outcome) → CheckLeads request outcome → ReadsFirst outcome.steps
 unfolding ReadsFirst IsNoRead
 check_reads_first request outcome (inl served) = subst (λ (s : List Step). ReadsFirst s) (sym served.steps_are) (tt, tt)
-check_reads_first request outcome (inr (inl refused)) = subst (λ (s : List Step). ReadsFirst s) (sym refused.steps_are) tt
+check_reads_first request outcome (inr (inl refused)) = subst (λ (s : List Step). ReadsFirst s) (sym refused.said.steps_are) tt
 check_reads_first request outcome (inr (inr refused)) = subst (λ (s : List Step). ReadsFirst s) (sym refused.steps_are) tt
+
+pub format_reads_first : (request : FormatRequest) (outcome : Outcome) → FormatLeads request outcome → ReadsFirst outcome.steps
+unfolding ReadsFirst IsNoRead
+format_reads_first request outcome (inl said) = subst (λ (s : List Step). ReadsFirst s) (sym said.steps_are) tt
+format_reads_first request outcome (inr refused) = subst (λ (s : List Step). ReadsFirst s) (sym refused.said.steps_are) tt
 
 pub reads_first : (words : List (List ℕ)) (outcome : Outcome) → Means words outcome → ReadsFirst outcome.steps
 unfolding ReadsFirst IsNoRead
 reads_first words outcome (inl (check request, asks, leads)) = check_reads_first request outcome leads
+reads_first words outcome (inl (format request, asks, leads)) = format_reads_first request outcome leads
 reads_first words outcome (inr (nothing, is)) = subst (λ (o : Outcome). ReadsFirst o.steps) (sym is) tt

@@ -1,12 +1,13 @@
 -- The words of a command: settings, one after the other, before a last word.
-use Rattle.std.proofs.Common.{Bor, is_some, not, ◌≡◌, ℕ, ◌-◌, ◌<◌, ◌≤◌, length, map, take, drop, get_or, arith, true, false, Bool, List, [], ◌∷◌, ◌++◌, Option, Some, None, if◌then◌else◌, refl, sym, ap, ◌∙◌, append_assoc}
+use Rattle.std.proofs.Common.{Bor, IsTrue, ◌↔◌, is_some, not, ◌≡◌, ℕ, ◌-◌, ◌<◌, ◌≤◌, length, map, take, drop, get_or, arith, true, false, Bool, List, [], ◌∷◌, ◌++◌, Option, Some, None, if◌then◌else◌, refl, sym, ap, ◌∙◌, append_assoc}
 use Rattle.std.specs.Prelude.{codes, unwrap_or, ◌==◌}
 use Rattle.std.specs.Str.{bytes_eq}
 use Rattle.std.specs.Option.{option_copied}
 use Rattle.std.proofs.lemmas.Slice.Eq.{bytes_eq-Decides}
 use Rattle.std.proofs.lemmas.Bool.{false_from_ne_true}
 use Rattle.std.proofs.lemmas.Grind.{common_steps}
-use Rattle.drc_cli.specs.Command.{CheckRequest, Command, check, Setting, words_of, value_in, no_date, AreServed, IsServedOption, AsksForCheck, Asks}
+use Rattle.list_facts.proofs.Texts.{bytes_apart}
+use Rattle.drc_cli.specs.Command.{CheckRequest, FormatRequest, Command, check, format, Setting, words_of, value_in, no_date, AreServed, IsServedOption, AsksForCheck, AsksForFormat, Asks, AreRefused}
 
 -- ---- The value of an option
 
@@ -25,10 +26,6 @@ value_append (setting ∷ first) last option = elim (bytes_eq setting.option opt
 none_of : (b : Bool) (value : List ℕ) (other : Option (List ℕ)) → (if b then Some value else other) ≡ None → (b ≡ false) × (other ≡ None)
 none_of true value other e = absurd cc
 none_of false value other e = (refl, e)
-
-differ_back : (a b : List ℕ) → bytes_eq a b ≡ false → bytes_eq b a ≡ false
-differ_back a b differ = false_from_ne_true (bytes_eq b a) (λ same.
-    let back : bytes_eq a b ≡ true = (bytes_eq-Decides a b).1 (sym ((bytes_eq-Decides b a).0 same)) in cc)
 
 -- an option that isn't set before, nor by one setting more
 still_none : (settings : List Setting) (setting : Setting) (option : List ℕ) → value_in settings option ≡ None → bytes_eq setting.option option ≡ false
@@ -59,7 +56,7 @@ served_more [] setting served here none = (here, refl, tt)
 served_more (first ∷ settings) setting served here none =
     let parts = none_of (bytes_eq first.option setting.option) first.value (value_in settings setting.option) none in (
       served.0,
-      still_none settings setting first.option served.1 (differ_back first.option setting.option parts.0),
+      still_none settings setting first.option served.1 (bytes_apart first.option setting.option parts.0),
       served_more settings setting served.2 here parts.1,
     )
 
@@ -141,8 +138,28 @@ one_request words a b p q =
     let same = same_words p.settings q.settings a.deck b.deck tails in
     same_request a b (p.date ∙ ap (λ s. unwrap_or (value_in s (codes "--date")) no_date) same.0 ∙ sym q.date) same.1
 
+one_format : (words : List (List ℕ)) (a b : FormatRequest) → AsksForFormat words a → AsksForFormat words b → a ≡ b
+one_format words a b p q =
+    let both : codes "fmt" ∷ a.deck ∷ [] ≡ codes "fmt" ∷ b.deck ∷ [] = sym p.spelled ∙ q.spelled in
+    let same : a.deck ≡ b.deck = cc in
+    ap (λ d. let r : FormatRequest = record { deck = d } in r) same
+
+-- the first word tells the commands apart
+not_both : (words : List (List ℕ)) (a : CheckRequest) (b : FormatRequest) → AsksForCheck words a → AsksForFormat words b → ⊥
+not_both words a b p q =
+    let firsts : codes "check" ∷ (words_of p.settings ++ a.deck ∷ []) ≡ codes "fmt" ∷ b.deck ∷ [] = sym p.spelled ∙ q.spelled in
+    let never : codes "check" ≡ codes "fmt" = cc in cc
+
 pub one_command : (words : List (List ℕ)) (a b : Command) → Asks words a → Asks words b → a ≡ b
 one_command words (check a) (check b) p q = ap (λ (r : CheckRequest). check r) (one_request words a b p q)
+one_command words (check a) (format b) p q = absurd (not_both words a b p q)
+one_command words (format a) (check b) p q = absurd (not_both words b a q p)
+one_command words (format a) (format b) p q = ap (λ (r : FormatRequest). format r) (one_format words a b p q)
+
+-- ---- Words that ask for no check
+
+pub plain_refused : (words : List (List ℕ)) → AreRefused words → IsTrue true ↔ ((request : CheckRequest) → AsksForCheck words request → ⊥)
+plain_refused words nothing = (λ t request asks. nothing (check request) asks, λ none. refl)
 
 -- ---- A date that is set
 

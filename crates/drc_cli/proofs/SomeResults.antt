@@ -5,7 +5,7 @@ use Rattle.drc_geom.specs.Squares.{covered}
 use Rattle.run_lists.proofs.Bounds.{boundary_listed}
 use Rattle.gds_records.specs.Records.{Item}
 use Rattle.drc_cli.specs.CheckMeaning.{Reports, results_of}
-use Rattle.drc_cli.specs.Deck.{Deck, input_of, units_of, precision}
+use Rattle.first_form.specs.FirstForm.{ServedDeck, input_of, units_of, precision}
 use Rattle.drc_cli.specs.Layout.{Element, Accepts, AreElements, FirstForm, drawn}
 use Rattle.drc_cli.specs.Text.{results_text, said_text}
 use Rattle.drc_cli.specs.Working.LayoutReading.{rects_on}
@@ -32,7 +32,7 @@ form_drawn primary (a ∷ b ∷ c ∷ d ∷ []) elements form = absurd form
 form_drawn primary (a ∷ b ∷ c ∷ d ∷ e ∷ []) elements form = absurd form
 form_drawn primary (header ∷ library ∷ library_name ∷ units ∷ structure ∷ name ∷ items) elements (h, l, m, u, s, n, are) = all_drawn items elements are
 
-pub has_results : (d : Deck) (bytes date : List ℕ) (elements : List Element) → Accepts d.primary bytes elements → (text line : List ℕ) × Reports d bytes date text line
+pub has_results : (d : ServedDeck) (bytes date : List ℕ) (elements : List Element) → Accepts d.primary bytes elements → (text line : List ℕ) × Reports d bytes date text line
 has_results d bytes date elements accepted =
     let number = (input_of d).number in
     let rects = rects_on number elements in

@@ -1,5 +1,5 @@
 -- Lists of steps: done one part after the other; and texts that are said in pieces.
-use Rattle.std.proofs.Common.{◌≡◌, ℕ, ◌<◌, ◌+◌, List, [], ◌∷◌, ◌++◌, length, Option, Bool, IsTrue, Some, Result, Ok, Err, true, false, is_err, inl, inr, refl, sym, ap, subst, ◌∙◌, arith, append_assoc, length-append}
+use Rattle.std.proofs.Common.{◌≡◌, ℕ, List, [], ◌∷◌, ◌++◌, Option, Bool, IsTrue, Some, Result, Ok, Err, false, is_err, inl, inr, refl, sym, ap, subst, ◌∙◌, arith, append_assoc, length-append}
 use Rattle.drc_ports.specs.declared.failed.Failed.{Failed}
 use Rattle.drc_ports.specs.Counts.{one_more}
 use Rattle.std.specs.Prelude.{codes, decimal}
@@ -10,8 +10,8 @@ use Rattle.drc_cli.specs.declared.answer.Which.{Which}
 use Rattle.drc_cli.specs.Working.Decide.{Leaves}
 use Rattle.drc_cli.specs.Lines.{Refusal, refusal_line, write_line}
 use Rattle.drc_cli.specs.Outcome.{Outcome, Step, reads, writes, says}
-use Rattle.drc_cli.specs.ProgramEnds.{EndsAs, IsWhole, IsCut, IsUnsaid}
-use Rattle.drc_cli.specs.Steps.{Changes, IsDone, AreDone, IsCutShort, ChangesInPart, IsUnopened, IsBrokenOff, Fails, IsTried}
+use Rattle.drc_cli.specs.ProgramEnds.{EndsAs}
+use Rattle.drc_cli.specs.Steps.{Changes, IsDone, AreDone, IsCutShort, Fails, IsTried}
 use Rattle.drc_cli.specs.Working.Endings.{said_status}
 use Rattle.drc_cli.specs.Working.Tries.{Tries}
 use Rattle.drc_cli.specs.Working.Whole.{write_all_tally, WritesAll}
@@ -156,24 +156,31 @@ file_written tells which name text (Err failed) old at new begun created counted
   contents = λ told. let w = written told in (w.0, w.1, written_to which name w.0 old.contents at.contents new.contents (created told) w.2 w.3);
 })
 
+-- ---- A command that is done but for its text
+
+pub said_last : (tells : Bool) (text : List ℕ) (result : Result (Unit {0}) Failed) (old new : World) → Tries tells (says text) result old new
+    → EndsAs (record { status = status.Done; steps = says text ∷ [] }) (said_status result) tells old new
+said_last tells text (Ok u) old new said = inl (record { status_is = refl; done = one_done tells (says text) old new said })
+said_last tells text (Err failed) old new unsaid = inr (inr (record {
+  before = [];
+  text = text;
+  at = old;
+  steps = refl;
+  done = refl;
+  fails = unsaid;
+  status_is = refl;
+}))
+
 -- ---- A command that is ready: it writes its file and says its line
 
 module _ (tells : Bool) (which : Which) (name text line : List ℕ) where
   abbrev pub results : Outcome
   results = record { status = status.Done; steps = writes which name text ∷ says line ∷ [] }
 
-  pub published : (result : Result (Unit {0}) Failed) (old at new : World) → IsDone tells (writes which name text) old at → Tries tells (says line) result at new
-      → EndsAs results (said_status result) tells old new
-  published (Ok u) old at new written said = inl (record { status_is = refl; done = (at, written, (new, said, refl)) })
-  published (Err failed) old at new written unsaid = inr (inr (record {
-    before = writes which name text ∷ [];
-    text = line;
-    at = at;
-    steps = refl;
-    done = (at, written, refl);
-    fails = unsaid;
-    status_is = refl;
-  }))
+  pub published : (answer : Status) (old at new : World) → IsDone tells (writes which name text) old at
+      → EndsAs (record { status = status.Done; steps = says line ∷ [] }) answer tells at new → EndsAs results answer tells old new
+  published answer old at new written ends =
+      ends_with results (says line ∷ []) answer tells old at new (record { before = writes which name text ∷ []; steps = refl; done = (at, written, refl) }) ends
 
   pub unpublished : (result : Result (Unit {0}) Failed) (old at new : World) → Fails tells (writes which name text) old at → Tries tells (says (write_line name)) result at new
       → EndsAs results (status.WriteFault which) tells old new

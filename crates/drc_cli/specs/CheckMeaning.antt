@@ -7,23 +7,26 @@ use Rattle.list_facts.specs.InOrder.{ListsInOrder}
 use Rattle.gds_records.specs.declared.fault.LayoutRefusal.{LayoutRefusal}
 use Rattle.drc_cli.specs.declared.answer.Status.TheVariants as status
 use Rattle.drc_cli.specs.declared.answer.Which.TheVariants as which
-use Rattle.drc_cli.specs.declared.deck_kind.DeckKind.TheVariants as deck
-use Rattle.drc_cli.specs.declared.deck_kind.DeckRefusal.{DeckRefusal}
+use Rattle.deck_tree.specs.declared.refusal.DeckKind.TheVariants as reasons
+use Rattle.deck_tree.specs.declared.refusal.DeckRefusal.{DeckRefusal}
+use Rattle.deck_refusal.specs.Refused.{IsTextRefused}
+use Rattle.first_form.specs.FirstForm.{ServedDeck, input_of, units_of, precision, limit}
 use Rattle.drc_cli.specs.Command.{CheckRequest}
-use Rattle.drc_cli.specs.Deck.{Deck, Spells, input_of, units_of, precision, limit}
+use Rattle.drc_cli.specs.Deck.{Spells, IsUnserved}
+use Rattle.drc_cli.specs.DeckMeaning.{SaysRefusal}
 use Rattle.drc_cli.specs.Layout.{Element, Accepts, Refuses, drawn}
-use Rattle.drc_cli.specs.Lines.{deck_line, layout_line}
+use Rattle.drc_cli.specs.Lines.{layout_line}
 use Rattle.drc_cli.specs.Outcome.{Outcome, reads, writes, says}
 use Rattle.drc_cli.specs.ShortRuns.{IsShortRun}
 use Rattle.drc_cli.specs.Text.{CheckResults, run, results_text, said_text}
 
 -- what the check of a deck of the first form writes, where it found these runs
-abbrev pub results_of : Deck → (date : List ℕ) → List Run → CheckResults
+abbrev pub results_of : ServedDeck → (date : List ℕ) → List Run → CheckResults
 results_of d date runs = record { name = d.check; notes = d.note ∷ []; limit = limit; date = date; results = map run runs }
 
 -- The results of a deck over a layout of these bytes, and the line that is said: the runs of the boundary of the checked
 -- layer's squares that are shorter than the deck's bound, in run order.
-pub record Reports (d : Deck) (bytes date text line : List ℕ) : Type 0 where
+pub record Reports (d : ServedDeck) (bytes date text line : List ℕ) : Type 0 where
   pub elements : List Element
   pub runs : List Run
   pub accepted : Accepts d.primary bytes elements
@@ -34,7 +37,7 @@ pub record Reports (d : Deck) (bytes date text line : List ℕ) : Type 0 where
 -- deck and layout are read, the results written, and the line said
 pub record IsServed (request : CheckRequest) (outcome : Outcome) : Type 0 where
   pub deck : List ℕ
-  pub d : Deck
+  pub d : ServedDeck
   pub bytes : List ℕ
   pub text : List ℕ
   pub line : List ℕ
@@ -44,20 +47,25 @@ pub record IsServed (request : CheckRequest) (outcome : Outcome) : Type 0 where
   pub steps_are : outcome.steps
       ≡ reads which.Deck request.deck deck ∷ reads which.Layout d.layout bytes ∷ writes which.Results d.results text ∷ says line ∷ []
 
--- the deck is refused at its first byte, where it spells nothing that is served
+-- a deck that isn't served is refused at its first byte
 abbrev pub unserved_deck : DeckRefusal
-unserved_deck = record { at = 0; kind = deck.NotBuilt }
+unserved_deck = record { at = 0; kind = reasons.NotBuilt }
+
+-- the text of the file of this name is refused so: it is no deck, or a deck that isn't served
+abbrev pub IsDeckRefused : (deck_name text : List ℕ) → DeckRefusal → Type 0
+IsDeckRefused deck_name text refusal =
+    IsTextRefused text refusal ⊎ (IsUnserved deck_name text × (refusal ≡ unserved_deck))
 
 pub record HasRefusedDeck (request : CheckRequest) (outcome : Outcome) : Type 0 where
   pub deck : List ℕ
-  pub unserved : (d : Deck) → Spells request.deck deck d → ⊥
-  pub status_is : outcome.status ≡ status.Deck unserved_deck
-  pub steps_are : outcome.steps ≡ reads which.Deck request.deck deck ∷ says (deck_line unserved_deck) ∷ []
+  pub refusal : DeckRefusal
+  pub refused : IsDeckRefused request.deck deck refusal
+  pub said : SaysRefusal request.deck deck refusal outcome
 
 -- the layout that the deck names is refused
 pub record HasRefusedLayout (request : CheckRequest) (outcome : Outcome) : Type 0 where
   pub deck : List ℕ
-  pub d : Deck
+  pub d : ServedDeck
   pub bytes : List ℕ
   pub refusal : LayoutRefusal
   pub spelled : Spells request.deck deck d
@@ -72,7 +80,7 @@ CheckLeads request outcome =
     IsServed request outcome ⊎ (HasRefusedDeck request outcome ⊎ HasRefusedLayout request outcome)
 
 -- the layout that a deck names is held, and is accepted or refused
-pub record IsJudged (held : List ℕ → Option (List ℕ)) (d : Deck) : Type 0 where
+pub record IsJudged (held : List ℕ → Option (List ℕ)) (d : ServedDeck) : Type 0 where
   pub bytes : List ℕ
   pub is_held : held d.layout ≡ Some bytes
   pub judged : ((elements : List Element) × Accepts d.primary bytes elements) ⊎ ((refusal : LayoutRefusal) × Refuses d.primary bytes refusal)

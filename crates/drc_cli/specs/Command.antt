@@ -1,5 +1,5 @@
--- What the words of the command line ask for: `check { OPTION VALUE } DECK`. The options stand in any order, each at most
--- once. The one that is served is `--date TEXT`.
+-- What the words of the command line ask for: `check { OPTION VALUE } DECK`, where the options stand in any order, each at
+-- most once, and the one that is served is `--date TEXT`; or `fmt DECK`.
 use Rattle.std.specs.Prelude.{◌≡◌, ◌≢◌, ℕ, ◌<◌, ◌≤◌, List, [], ◌∷◌, ◌++◌, length, codes, Option, Some, None, unwrap_or, if◌then◌else◌}
 use Rattle.std.specs.List.{AllPass}
 use Rattle.std.specs.Str.{bytes_eq}
@@ -12,9 +12,14 @@ pub record CheckRequest : Type 0 where
   pub date : List ℕ
   pub deck : List ℕ
 
+-- the canonical text of the deck of this name
+pub record FormatRequest : Type 0 where
+  pub deck : List ℕ
+
 -- a command, and what it is asked to do
 pub data Command : Type 0 where
   check : CheckRequest → Command
+  format : FormatRequest → Command
 
 -- ---- Options
 
@@ -67,11 +72,19 @@ pub record AsksForCheck (words : List (List ℕ)) (request : CheckRequest) : Typ
   pub deck : IsFileWord request.deck
   pub date : request.date ≡ unwrap_or (value_in settings (codes "--date")) no_date
 
+-- ---- The command `fmt`
+
+-- the words ask for this deck's canonical text
+pub record AsksForFormat (words : List (List ℕ)) (request : FormatRequest) : Type 0 where
+  pub spelled : words ≡ codes "fmt" ∷ request.deck ∷ []
+  pub deck : IsFileWord request.deck
+
 -- ---- All commands
 
 -- the words ask for this command: one line for each command
 abbrev pub Asks : (words : List (List ℕ)) → Command → Type 0
 Asks words (check request) = AsksForCheck words request
+Asks words (format request) = AsksForFormat words request
 
 -- the words ask for nothing that is served
 abbrev pub AreRefused : List (List ℕ) → Type 0

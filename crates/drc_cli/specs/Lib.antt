@@ -1,6 +1,5 @@
 pub mod Printable
 pub mod Deck
-pub mod DeckKinds
 pub mod Layout
 pub mod Text
 pub mod ShortRuns
@@ -9,7 +8,9 @@ pub mod Command
 pub mod Lines
 pub mod Outcome
 pub mod Steps
+pub mod DeckMeaning
 pub mod CheckMeaning
+pub mod FormatMeaning
 pub mod Meaning
 pub mod ProgramEnds
 pub mod Working

@@ -3,13 +3,15 @@ use Rattle.std.specs.Prelude.{◌≡◌, ◌⊎◌, ℕ, List, [], ◌∷◌, Op
 use Rattle.std.specs.List.{AllByRecursion}
 use Rattle.drc_cli.specs.declared.answer.Status.TheVariants as status
 use Rattle.drc_cli.specs.CheckMeaning.{CheckLeads}
-use Rattle.drc_cli.specs.Command.{Command, check, Asks, AreRefused}
+use Rattle.drc_cli.specs.Command.{Command, check, format, Asks, AreRefused}
+use Rattle.drc_cli.specs.FormatMeaning.{FormatLeads}
 use Rattle.drc_cli.specs.Lines.{words_line}
 use Rattle.drc_cli.specs.Outcome.{Outcome, Step, reads, writes, says}
 
 -- a command leads to this outcome: one line for each command
 abbrev pub Leads : Command → Outcome → Type 0
 Leads (check request) outcome = CheckLeads request outcome
+Leads (format request) outcome = FormatLeads request outcome
 
 -- words that ask for nothing are refused
 abbrev pub refused_words : Outcome

@@ -4,16 +4,20 @@
 use Rattle.std.specs.Prelude.{◌≡◌, ◌⊎◌, ℕ, ◌≤◌, ◌+◌, List, [], ◌∷◌, ◌++◌, Bool, IsTrue, Some}
 use Rattle.drc_ports.specs.Counts.{Rose}
 use Rattle.drc_ports.specs.Files.{Tally, Contents, World, HasNow}
+use Rattle.deck_tree.specs.declared.deck.Deck.{Deck}
+use Rattle.deck_printer.specs.Canonical.{canonical}
+use Rattle.deck_parser.specs.Parsed.{IsDeckText}
+use Rattle.first_form.specs.FirstForm.{ServedDeck}
 use Rattle.drc_cli.specs.declared.answer.Status.{Status}
 use Rattle.drc_cli.specs.declared.answer.Status.TheVariants as status
 use Rattle.drc_cli.specs.declared.answer.Which.TheVariants as which
 use Rattle.drc_cli.specs.CheckMeaning.{Reports}
-use Rattle.drc_cli.specs.Command.{Command, CheckRequest, Asks}
-use Rattle.drc_cli.specs.Deck.{Deck, Spells}
+use Rattle.drc_cli.specs.Command.{Command, check, format, CheckRequest, FormatRequest, Asks}
+use Rattle.drc_cli.specs.Deck.{Spells}
 use Rattle.drc_cli.specs.Lines.{read_line, write_line, memory_line}
 use Rattle.drc_cli.specs.Meaning.{Means}
 use Rattle.drc_cli.specs.Outcome.{Outcome, Step, reads, writes, says}
-use Rattle.drc_cli.specs.Steps.{IsDone, AreDone, Fails, IsTried}
+use Rattle.drc_cli.specs.Steps.{AreDone, Fails, IsTried}
 
 -- ---- With all steps done
 
@@ -103,7 +107,7 @@ pub record NoneFailed (old new : Tally) : Type 0 where
 -- made is as before, and the line was said.
 pub record HasResults (request : CheckRequest) (old new : Contents) : Type 0 where
   pub deck : List ℕ
-  pub d : Deck
+  pub d : ServedDeck
   pub bytes : List ℕ
   pub text : List ℕ
   pub line : List ℕ
@@ -113,6 +117,20 @@ pub record HasResults (request : CheckRequest) (old new : Contents) : Type 0 whe
   pub reports : Reports d bytes request.date text line
   pub made : HasNow d.results text old.made new.made
   pub said : new.said ≡ old.said ++ line
+
+-- A deck has its canonical text: that of the deck which the file spells was said, and no file was made.
+pub record HasText (request : FormatRequest) (old new : Contents) : Type 0 where
+  pub text : List ℕ
+  pub deck : Deck
+  pub text_held : old.held request.deck ≡ Some text
+  pub is_deck : IsDeckText text deck
+  pub made : new.made ≡ old.made
+  pub said : new.said ≡ old.said ++ canonical deck
+
+-- a command that is done has done this
+abbrev pub HasDone : Command → (old new : Contents) → Type 0
+HasDone (check request) old new = HasResults request old new
+HasDone (format request) old new = HasText request old new
 
 -- an answer before any file is made
 abbrev pub IsRefusal : Status → Type 0

@@ -1,7 +1,4 @@
 -- Working words, of loops and private functions: no clause of a public function cites them.
-pub mod DeckReading
-pub mod DeckView
-pub mod DeckAnswer
 pub mod LayoutReading
 pub mod ShortRuns
 pub mod TextView

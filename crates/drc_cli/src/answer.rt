@@ -2,7 +2,7 @@
 ghost use Rattle.std.specs.Prelude.{◌≡◌};
 ghost use Rattle.drc_cli.specs.Statuses.{exit_status_of};
 
-use crate::deck_kind::DeckRefusal;
+use deck_tree::DeckRefusal;
 use gds_records::LayoutRefusal;
 
 /// Which of its files a run was at when a call failed.

@@ -1,7 +1,7 @@
 //! The words of the command line.
 ghost use Rattle.std.specs.Prelude.{◌≡◌, ◌↔◌, List, ◌∷◌, codes, IsTrue, IfSome, IfNone, map, string_bytes};
-ghost use Rattle.drc_cli.specs.Command.{CheckRequest as Request, Setting, Asks, AsksForCheck, AreRefused, AreServed, IsDate, IsFileWord, words_of};
-ghost use Rattle.drc_cli.specs.Working.CommandView.{request_of, command_of as view, HasSettings, TakesSetting};
+ghost use Rattle.drc_cli.specs.Command.{CheckRequest as Request, FormatRequest as FormatAsked, Setting, Asks, AsksForCheck, AsksForFormat, AreRefused, AreServed, IsDate, IsFileWord, words_of};
+ghost use Rattle.drc_cli.specs.Working.CommandView.{request_of, format_of as format_view, command_of as view, HasSettings, TakesSetting};
 
 use crate::printable::is_printable;
 
@@ -9,12 +9,19 @@ use crate::printable::is_printable;
 #[derive(Clone, Copy, Debug)]
 pub enum Command<'a> {
     Check(CheckRequest<'a>),
+    Format(FormatRequest<'a>),
 }
 
 /// A check that was asked for: the date that its results bear, and the deck's name.
 #[derive(Clone, Copy, Debug)]
 pub struct CheckRequest<'a> {
     pub date: &'a str,
+    pub deck: &'a str,
+}
+
+/// The canonical text that was asked for: the deck's name.
+#[derive(Clone, Copy, Debug)]
+pub struct FormatRequest<'a> {
     pub deck: &'a str,
 }
 
@@ -35,6 +42,7 @@ pub fn command_of(words: &[String]) -> Option<Command<'_>>
     let (word, rest) = words.split_first()?;
     match word.as_str() {
         "check" => Some(Command::Check(check_of(rest)?)),
+        "fmt" => Some(Command::Format(format_of(rest)?)),
         _ => None,
     }
 }
@@ -54,6 +62,20 @@ fn check_of(words: &[String]) -> Option<CheckRequest<'_>>
         date: settings.date.unwrap_or(NO_DATE),
         deck: deck.as_str(),
     })
+}
+
+/// The deck that the words after `fmt` name.
+fn format_of(words: &[String]) -> Option<FormatRequest<'_>>
+    ensures asked { IfSome result (λ request. AsksForFormat (codes "fmt" ∷ map string_bytes words.now) (format_view request)) }
+    ensures refused { IfNone result ((request : FormatAsked)
+        → AsksForFormat (codes "fmt" ∷ map string_bytes words.now) request → ⊥) }
+{
+    match words {
+        [deck] if is_file_word(deck.as_bytes()) => Some(FormatRequest {
+            deck: deck.as_str(),
+        }),
+        _ => None,
+    }
 }
 
 /// What the words before the deck's name set.

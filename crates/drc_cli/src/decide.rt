@@ -3,27 +3,33 @@ ghost use Rattle.std.specs.Prelude.{◌≡◌, IfOk, map};
 ghost use Rattle.std.specs.List.{AllByRecursion};
 ghost use Rattle.drc_geom.specs.Squares.{IsRect};
 ghost use Rattle.drc_ports.specs.Files.{world};
+ghost use Rattle.first_form.specs.FirstForm.{IsFileName, limit};
+ghost use Rattle.drc_cli.specs.Command.{check as asked_check};
 ghost use Rattle.drc_cli.specs.Working.CommandView.{request_of};
-ghost use Rattle.drc_cli.specs.Deck.{IsFileName, limit};
 ghost use Rattle.drc_cli.specs.Text.{run};
 ghost use Rattle.drc_cli.specs.Working.TextView.{results_of};
-ghost use Rattle.drc_cli.specs.Working.Decide.{IsDeckRead, IsLayoutRead, IsReady, IsDecided};
+ghost use Rattle.drc_cli.specs.Working.Decide.{IsLayoutRead, IsReady, IsDecided};
 
 use crate::answer::Which;
 use crate::command::CheckRequest;
-use crate::deck::{FirstDeck, LIMIT, PRECISION, first_deck};
-use crate::deck_kind::{DeckKind, DeckRefusal};
+use crate::deck_text::read_deck;
 use crate::ending::Ending;
 use crate::file_name::text_of_name;
 use crate::layout::{LayoutEnd, read_layout};
-use crate::read::{ReadEnd, read_whole};
 use crate::ready::Ready;
 use crate::short_runs::short_runs;
 use crate::text::{CheckResults, Found, results_text, said_text};
-use deck_lexer::LONGEST_DECK;
+use deck_tree::{DeckKind, DeckRefusal};
 use drc_geom::{Name, Rect, Run};
 use drc_ports::Files;
+use first_form::{FirstDeck, LIMIT, PRECISION, first_deck};
 use std::alloc::{AllocError, Global};
+
+/// What is said of a deck that isn't served.
+const UNSERVED: DeckRefusal = DeckRefusal {
+    at: 0,
+    kind: DeckKind::NotBuilt,
+};
 
 /// Reads deck and layout, and makes all that the check will write and say.
 pub fn decide_check<F: Files>(
@@ -31,38 +37,18 @@ pub fn decide_check<F: Files>(
     request: &CheckRequest<'_>,
     files: &mut F,
 ) -> Result<Ready, Ending>
-    ensures { IsDecided (request_of request.now) result F.tells
+    ensures { IsDecided (asked_check (request_of request.now)) result F.tells
         (world (F.tally files.old) (F.contents files.old)) (world (F.tally files.new) (F.contents files.new)) }
 {
-    match deck_text(alloc, request.deck, files) {
+    match read_deck(alloc, request.deck, files) {
         Err(ending) => Err(ending),
-        Ok(text) => match first_deck(&text, request.deck.as_bytes()) {
-            None => Err(Ending::Deck(DeckRefusal {
-                at: 0,
-                kind: DeckKind::NotBuilt,
-            })),
-            Some(deck) => match layout_rects(alloc, &deck, files) {
+        Ok(deck) => match first_deck(&deck, request.deck.as_bytes()) {
+            None => Err(Ending::Deck(UNSERVED, Name::new(alloc, b"")?)),
+            Some(found) => match layout_rects(alloc, &found, files) {
                 Err(ending) => Err(ending),
-                Ok(rects) => Ok(ready(alloc, request.date, &deck, rects)?),
+                Ok(rects) => Ok(ready(alloc, request.date, &found, rects)?),
             },
         },
-    }
-}
-
-/// The deck's text; of one that is longer than the longest, more than so many bytes of its front.
-fn deck_text<F: Files>(alloc: Global, name: &str, files: &mut F) -> Result<Vec<u8>, Ending>
-    ensures { IsDeckRead name.now result F.tells
-        (world (F.tally files.old) (F.contents files.old)) (world (F.tally files.new) (F.contents files.new)) }
-{
-    let file = String::from_str(alloc, name)?;
-    let kept = Name::new(alloc, name.as_bytes())?;
-    if files.begin_read(file).is_err() {
-        return Err(Ending::ReadFault(Which::Deck, kept));
-    }
-    match read_whole(alloc, files, LONGEST_DECK) {
-        Ok(text) => Ok(text),
-        Err(ReadEnd::Memory) => Err(Ending::Memory),
-        Err(ReadEnd::Failed) => Err(Ending::ReadFault(Which::Deck, kept)),
     }
 }
 

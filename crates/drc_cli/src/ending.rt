@@ -2,16 +2,16 @@ ghost use Rattle.std.specs.Prelude.{◌≡◌};
 ghost use Rattle.drc_cli.specs.declared.ending.Ending.TheVariants.{Memory};
 
 use crate::answer::{Status, Which};
-use crate::deck_kind::DeckRefusal;
+use deck_tree::DeckRefusal;
 use drc_geom::Name;
 use gds_records::LayoutRefusal;
 use std::alloc::{AllocError, AllocFailed};
 
-/// Why a check writes nothing.
+/// Why a command ends before it writes or says its text.
 #[derive(Debug, Drop)]
 pub enum Ending {
-    /// The deck is refused.
-    Deck(DeckRefusal),
+    /// The deck is refused, with this detail.
+    Deck(DeckRefusal, Name),
     /// The layout is refused.
     Layout(LayoutRefusal),
     /// The file of this name could not be read.

@@ -1,5 +1,5 @@
 ghost use Rattle.std.specs.Prelude.{◌≡◌, IfOk, string_bytes};
-ghost use Rattle.drc_cli.specs.Deck.{IsFileName};
+ghost use Rattle.first_form.specs.FirstForm.{IsFileName};
 
 use std::alloc::{AllocError, Global};
 

@@ -52,6 +52,3 @@ pub fn read_layout<F: Files>(
         Stop::ReadFault => Err(LayoutEnd::ReadFault),
     }
 }
-
-#[cfg(test)]
-mod tests;

@@ -11,7 +11,7 @@ use drc_ports::{Failed, Files};
 use itoa::Buffer;
 
 /// Why a file is refused: the number of the reason, the offset at which it stands, its word, and a detail, which is
-/// empty or one space and a token.
+/// empty or one space and a word or two.
 #[derive(Clone, Copy, Debug)]
 pub struct Reason<'a> {
     pub number: u32,

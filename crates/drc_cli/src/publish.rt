@@ -1,9 +1,9 @@
 //! The results file is written, and the line of the command is said.
-ghost use Rattle.std.specs.Prelude.{◌≡◌, string_bytes};
+ghost use Rattle.std.specs.Prelude.{◌≡◌, [], ◌∷◌, string_bytes};
 ghost use Rattle.drc_ports.specs.Files.{world};
 ghost use Rattle.drc_cli.specs.declared.answer.Which.TheVariants.{Results};
 ghost use Rattle.drc_cli.specs.Working.Decide.{last_steps};
-ghost use Rattle.drc_cli.specs.Outcome.{writes};
+ghost use Rattle.drc_cli.specs.Outcome.{writes, says};
 ghost use Rattle.drc_cli.specs.ProgramEnds.{EndsAs};
 ghost use Rattle.drc_cli.specs.Working.Endings.{said_status};
 ghost use Rattle.drc_cli.specs.Working.Tries.{Tries};
@@ -31,8 +31,16 @@ pub fn write_results<F: Files>(files: &mut F, ready: Ready) -> Status
             let _ = say_three(files, b"write ", name.bytes(), b"\n");
             Status::WriteFault(Which::Results)
         }
-        Ok(()) => said_status(say_all(files, &line)),
+        Ok(()) => say_result(files, &line),
     }
+}
+
+/// Says the text of a command that is done but for it.
+pub fn say_result<F: Files>(files: &mut F, text: &[u8]) -> Status
+    ensures { EndsAs (record { status = Status.Done; steps = says text.now ∷ [] }) result F.tells
+        (world (F.tally files.old) (F.contents files.old)) (world (F.tally files.new) (F.contents files.new)) }
+{
+    said_status(say_all(files, text))
 }
 
 /// The status of a command that is done but for its line.

@@ -17,12 +17,12 @@ pub fn say_ending<F: Files>(files: &mut F, ending: &Ending) -> Result<(), Failed
         (world (F.tally files.old) (F.contents files.old)) (world (F.tally files.new) (F.contents files.new)) }
 {
     match ending {
-        Ending::Deck(refusal) => {
+        Ending::Deck(refusal, detail) => {
             let reason = Reason {
                 number: refusal.kind.number(),
                 at: refusal.at,
                 word: refusal.kind.word().as_bytes(),
-                detail: b"",
+                detail: detail.bytes(),
             };
             say_refusal(files, b"deck", &reason)
         }
@@ -45,7 +45,7 @@ pub fn status_of(ending: &Ending) -> Status
     ensures { result ≡ status_of ending.now }
 {
     match ending {
-        Ending::Deck(refusal) => Status::Deck(*refusal),
+        Ending::Deck(refusal, _) => Status::Deck(*refusal),
         Ending::Layout(refusal) => Status::Layout(*refusal),
         Ending::ReadFault(file, _) => Status::ReadFault(*file),
         Ending::Memory => Status::NoMemory,

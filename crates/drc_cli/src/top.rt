@@ -3,16 +3,18 @@ ghost use Rattle.std.specs.Prelude.{◌≡◌, ◌⊎◌, ◌↔◌, List, IsTru
 ghost use Rattle.drc_ports.specs.Counts.{Rose};
 ghost use Rattle.drc_ports.specs.Files.{world};
 ghost use Rattle.drc_cli.specs.Working.CommandEnds.{CommandEnds};
-ghost use Rattle.drc_cli.specs.Command.{CheckRequest as Request, check as asked_check, AsksForCheck, AreRefused};
-ghost use Rattle.drc_cli.specs.Working.CommandView.{request_of};
+ghost use Rattle.drc_cli.specs.Command.{Command as Asked, CheckRequest as Request, check as asked_check, format as asked_format, Asks, AsksForCheck, AreRefused};
+ghost use Rattle.drc_cli.specs.Working.CommandView.{request_of, format_of};
 ghost use Rattle.drc_cli.specs.Meaning.{Due};
 ghost use Rattle.drc_cli.specs.Outcome.{Outcome};
-ghost use Rattle.drc_cli.specs.ProgramEnds.{Ends, IsOutOfMemory, IsWhole, NoneFailed, HasResults, IsRefusal, MakesNothing};
+ghost use Rattle.drc_cli.specs.ProgramEnds.{Ends, IsOutOfMemory, IsWhole, NoneFailed, HasDone, IsRefusal, MakesNothing};
 
 use crate::answer::{Report, Status};
-use crate::command::{CheckRequest, Command, command_of};
+use crate::command::{CheckRequest, Command, FormatRequest, command_of};
 use crate::decide::decide_check;
-use crate::publish::write_results;
+use crate::format::canonical_text;
+use crate::laws::one_outcome;
+use crate::publish::{say_result, write_results};
 use crate::refuse::{say_ending, status_of};
 use crate::whole::say_all;
 use drc_ports::{Files, Gate};
@@ -21,7 +23,8 @@ use std::sync::Wait;
 use std::thread::Threads;
 
 /// Does what the words after the program's name ask for: `check [--date TEXT] DECK` reads the deck and its layout,
-/// writes the results file and says how many results there are. Anything else is refused by a line and a status.
+/// writes the results file and says how many results there are; `fmt DECK` says the deck's canonical text. Anything else
+/// is refused by a line and a status.
 pub fn run<R: Threads + Wait + Sync, F: Files, G: Gate + Sync>(
     _rt: &R,
     alloc: Global,
@@ -36,10 +39,11 @@ pub fn run<R: Threads + Wait + Sync, F: Files, G: Gate + Sync>(
     ensures ended { Ends (map string_bytes words.now) result.status F.tells
         (world (F.tally files.old) (F.contents files.old)) (world (F.tally files.new) (F.contents files.new)) }
 
-    // Done: the results file holds exactly the bytes that deck and layout mean, and the line is said.
+    // Done: of a check, the results file holds exactly the bytes that deck and layout mean, and the line is said; of a deck
+    // that is formatted, its canonical text is said.
     ensures results { IsTrue F.tells → result.status ≡ Status.Done
-        → (request : Request) × AsksForCheck (map string_bytes words.now) request
-        × HasResults request (F.contents files.old) (F.contents files.new) }
+        → (command : Asked) × Asks (map string_bytes words.now) command
+        × HasDone command (F.contents files.old) (F.contents files.new) }
 
     // Any answer but Done and a failure to write comes before a file is made.
     ensures unmade { IsRefusal result.status
@@ -61,9 +65,30 @@ pub fn run<R: Threads + Wait + Sync, F: Files, G: Gate + Sync>(
         → (Rose (F.tally files.old).read_faults (F.tally files.new).read_faults → ⊥)
         → (result.status ≡ outcome.status) ⊎ (result.status ≡ Status.NoMemory) }
 {
+    one_outcome();
     Report {
         status: answer(alloc, words, files),
     }
+}
+
+/// Whether the words are those of a command that waits for nobody, or are refused: all but those that ask for a check.
+pub fn is_plain(words: &[String]) -> bool
+    ensures { IsTrue result ↔ ((request : Request) → AsksForCheck (map string_bytes words.now) request → ⊥) }
+{
+    match command_of(words) {
+        Some(Command::Check(_)) => false,
+        Some(Command::Format(_)) => true,
+        None => true,
+    }
+}
+
+/// Does what plain words ask for, as `run` does. It waits for nobody.
+pub fn run_plain<F: Files>(alloc: Global, words: &[String], files: &mut F) -> Status
+    requires plain { (request : Request) → AsksForCheck (map string_bytes words.now) request → ⊥ }
+    ensures ended { Ends (map string_bytes words.now) result F.tells
+        (world (F.tally files.old) (F.contents files.old)) (world (F.tally files.new) (F.contents files.new)) }
+{
+    answer(alloc, words, files)
 }
 
 /// The end of a run whose words can't be kept for want of memory.
@@ -83,6 +108,7 @@ fn answer<F: Files>(alloc: Global, words: &[String], files: &mut F) -> Status
 {
     match command_of(words) {
         Some(Command::Check(request)) => check(alloc, &request, files),
+        Some(Command::Format(request)) => format(alloc, &request, files),
         None => {
             let _ = say_all(files, b"words\n");
             Status::Words
@@ -96,6 +122,19 @@ fn check<F: Files>(alloc: Global, request: &CheckRequest<'_>, files: &mut F) -> 
 {
     match decide_check(alloc, request, files) {
         Ok(ready) => write_results(files, ready),
+        Err(ending) => {
+            let _ = say_ending(files, &ending);
+            status_of(&ending)
+        }
+    }
+}
+
+fn format<F: Files>(alloc: Global, request: &FormatRequest<'_>, files: &mut F) -> Status
+    ensures { CommandEnds (asked_format (format_of request.now)) result F.tells
+        (world (F.tally files.old) (F.contents files.old)) (world (F.tally files.new) (F.contents files.new)) }
+{
+    match canonical_text(alloc, request, files) {
+        Ok(text) => say_result(files, &text),
         Err(ending) => {
             let _ = say_ending(files, &ending);
             status_of(&ending)

@@ -2,4 +2,4 @@ pub mod RunUnits
 pub mod MaximalRuns
 pub mod Boundaries
 pub mod Lengths
-mod Turning
+pub mod Turning

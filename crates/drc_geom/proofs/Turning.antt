@@ -1,16 +1,14 @@
 -- Turns by numbers of quarters: they add up, four of them are none, and a mirroring turns them round.
 use Rattle.std.proofs.Common.{◌≡◌, ℕ, zero, suc, ◌+◌, ◌*◌, ◌/◌, ◌%◌, Bool, true, false, not, ℤ, neg_ℤ, refl, sym, ap, ◌∙◌, arith, zero-add}
 use Rattle.std.proofs.lemmas.Int.{ints}
+use Rattle.std.proofs.Math.IntN.{neg_ℤ-neg_ℤ}
 use mathlib.Core.Bool.{beq}
 use Rattle.drc_geom.specs.declared.point.Pt.{Pt}
 use Rattle.drc_geom.specs.declared.turn.Turn.{Turn}
 use Rattle.drc_geom.specs.Turns.{IsCoordinate, IsPlaced, mirrored, turned, apply_of}
 
-neg_twice : (z : ℤ) → neg_ℤ (neg_ℤ z) ≡ z
-neg_twice z = omega (arith, ints)
-
 pub turned_four : (n : ℕ) (p : Pt) → turned (suc (suc (suc (suc n)))) p ≡ turned n p
-turned_four n p = λ i. turned n (record { x = neg_twice p.x i; y = neg_twice p.y i })
+turned_four n p = λ i. turned n (record { x = neg_ℤ-neg_ℤ p.x i; y = neg_ℤ-neg_ℤ p.y i })
 
 pub turned-add : (a b : ℕ) (p : Pt) → turned (a + b) p ≡ turned b (turned a p)
 turned-add zero b p = ap (λ n. turned n p) (zero-add b)
@@ -35,7 +33,7 @@ pub turned_like : (a b : ℕ) (p : Pt) → a % 4 ≡ b % 4 → turned a p ≡ tu
 turned_like a b p e = turned_rem a p ∙ ap (λ n. turned n p) e ∙ sym (turned_rem b p)
 
 mirrored_quarter : (p : Pt) → mirrored true (record { x = neg_ℤ p.y; y = p.x }) ≡ turned 3 (mirrored true p)
-mirrored_quarter p = λ i. record { x = sym (neg_twice (neg_ℤ p.y)) i; y = neg_ℤ p.x }
+mirrored_quarter p = λ i. record { x = sym (neg_ℤ-neg_ℤ (neg_ℤ p.y)) i; y = neg_ℤ p.x }
 
 -- to turn and then mirror is to mirror and then turn the other way round
 pub mirrored_turned : (m : ℕ) (p : Pt) → mirrored true (turned m p) ≡ turned (3 * m) (mirrored true p)
@@ -47,8 +45,8 @@ mirrored_turned (suc m) p =
     mirrored_turned m (record { x = neg_ℤ p.y; y = p.x }) ∙ ap (turned (3 * m)) (mirrored_quarter p)
     ∙ sym (turned-add 3 (3 * m) (mirrored true p)) ∙ ap (λ n. turned n (mirrored true p)) e
 
-mirrored_both : (a b : Bool) (p : Pt) → mirrored b (mirrored a p) ≡ mirrored (not (beq a b)) p
-mirrored_both true true p = λ i. record { x = p.x; y = neg_twice p.y i }
+pub mirrored_both : (a b : Bool) (p : Pt) → mirrored b (mirrored a p) ≡ mirrored (not (beq a b)) p
+mirrored_both true true p = λ i. record { x = p.x; y = neg_ℤ-neg_ℤ p.y i }
 mirrored_both true false p = refl
 mirrored_both false true p = refl
 mirrored_both false false p = refl
@@ -94,4 +92,4 @@ pub turned_twice : (q : ℕ) (p : Pt) → q % 4 ≡ 2 → record { x = neg_ℤ p
 turned_twice q p e = sym (turned_like q 2 p e)
 
 pub turned_thrice : (q : ℕ) (p : Pt) → q % 4 ≡ 3 → record { x = p.y; y = neg_ℤ p.x } ≡ turned q p
-turned_thrice q p e = (λ i. record { x = sym (neg_twice p.y) i; y = neg_ℤ p.x }) ∙ sym (turned_like q 3 p e)
+turned_thrice q p e = (λ i. record { x = sym (neg_ℤ-neg_ℤ p.y) i; y = neg_ℤ p.x }) ∙ sym (turned_like q 3 p e)

@@ -47,12 +47,12 @@ one_place a b e =
     subst (λ u. end_x a.side a.line a.lo ≡ end_x u b.line b.lo → end_y a.side a.line a.lo ≡ end_y u b.line b.lo → (a.line ≡ b.line) × (a.lo ≡ b.lo)) e
     (one_place_at a.side a.line a.lo b.line b.lo)
 
-first_tied : (p q : Ordering) → ordering_then p q ≡ Equal → p ≡ Equal
+pub first_tied : (p q : Ordering) → ordering_then p q ≡ Equal → p ≡ Equal
 first_tied Less q e = e
 first_tied Equal q e = refl
 first_tied Greater q e = e
 
-rest_tied : (p q : Ordering) → ordering_then p q ≡ Equal → q ≡ Equal
+pub rest_tied : (p q : Ordering) → ordering_then p q ≡ Equal → q ≡ Equal
 rest_tied Less q e = absurd (true≢false (sym (ap is_eq e)))
 rest_tied Equal q e = e
 rest_tied Greater q e = absurd (true≢false (sym (ap is_eq e)))

@@ -9,7 +9,7 @@ use Rattle.std.specs.declared.cmp.Ordering.{Ordering}
 use Rattle.std.specs.declared.cmp.Ordering.TheVariants.{Less, Equal, Greater}
 use mathlib.Core.Bool.{true≢false}
 use Rattle.list_facts.proofs.Members.{Has, all_from_has, all_weaker, has_holds, has_permuted}
-use Rattle.list_facts.proofs.Tests.{clash}
+use Rattle.list_facts.proofs.Tests.{by_test, clash}
 use Rattle.drc_geom.specs.declared.run.Run.{Run}
 use Rattle.drc_geom.specs.declared.unit.Side.{Side}
 use Rattle.drc_geom.specs.Units.{AreSameUnits, column_of, line_of}
@@ -62,10 +62,6 @@ module _ (same : Run → Run → Bool) (tells : (a b : Run) → same a b ≡ tru
   record IsStrictFrom (a : Run) (runs : List Run) : Type 0 where
     begins : BeginsWith a runs
     strict : AreStrict runs
-
-  by_test : {A : Type 0} (b : Bool) → (b ≡ true → A) → (b ≡ false → A) → A
-  by_test true f g = f refl
-  by_test false f g = g refl
 
   strict_from : (a : Run) (runs : List Run) → AreRising (a ∷ runs) → IsStrictFrom a (dedup_from same a runs)
   strict_from a [] r = record { begins = refl; strict = tt }

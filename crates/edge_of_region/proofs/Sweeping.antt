@@ -1,5 +1,5 @@
 -- The whole sweep: it begins with all flips left and nothing drawn, and ends with none left and the whole boundary drawn.
-use Rattle.std.proofs.Common.{◌≡◌, ◌⊎◌, inl, inr, Bool, true, false, not, ◌&&◌, ◌||◌, cond, ℕ, ◌-◌, ℤ, pos, ◌+ℤ◌, ◌-ℤ◌, ◌<ℤ◌, ◌≤ℤ◌, int_le, int_lt, Option, None, Some, List, [], ◌∷◌, ◌++◌, length, take, drop, get_or, slice_get, ◌+◌, ◌<◌, ◌≤◌, refl, sym, subst, ap, ◌∙◌, append_assoc, arith}
+use Rattle.std.proofs.Common.{◌≡◌, inl, inr, Bool, true, false, ◌&&◌, ◌||◌, ℕ, ◌-◌, ℤ, pos, ◌+ℤ◌, ◌-ℤ◌, ◌<ℤ◌, ◌≤ℤ◌, int_le, int_lt, Option, Some, List, [], ◌∷◌, ◌++◌, length, take, drop, get_or, slice_get, ◌+◌, ◌<◌, ◌≤◌, refl, sym, subst, ap, ◌∙◌, append_assoc, arith}
 use Rattle.std.proofs.lemmas.Int.{ints, by_lt_z}
 use Rattle.std.proofs.lemmas.List.{take_all, take_more}
 use Rattle.std.specs.Cmp.{both_ways}
@@ -19,11 +19,12 @@ use Rattle.drc_geom.specs.Runs.{IsMaximalRun, runs_have, units_of}
 use Rattle.drc_geom.proofs.RunUnits.{held_true}
 use Rattle.region_form.specs.declared.flip.Flip.{Flip}
 use Rattle.region_form.specs.Flips.{AreSorted, IsRegion, StandsBefore, changes, is_odd, squares}
+use Rattle.region_form.proofs.FlipOrder.{all_behind, all_nearer, far_end}
 use Rattle.edge_of_region.specs.declared.upright.Upright.{Upright}
 use Rattle.edge_of_region.specs.Working.Flips.{back_of, front_of, over_of, right_of}
 use Rattle.edge_of_region.specs.Working.Orders.{Descend}
-use Rattle.edge_of_region.specs.Working.Walks.{below_all, level_side, sides_all, upright_side}
-use Rattle.edge_of_region.proofs.NearLine.{LieUpTo, all_count}
+use Rattle.edge_of_region.specs.Working.Walks.{below_all, sides_all, upright_side}
+use Rattle.edge_of_region.proofs.NearLine.{all_count}
 use Rattle.edge_of_region.proofs.SideUnits.{level_unit, lies_from, stands_from, upright_unit}
 use Rattle.edge_of_region.proofs.Walks.{NoneAt, differs, same_along}
 use Rattle.edge_of_region.proofs.Passing.{HasUpright, IsDrawn, IsStanding, all_front, descend_back, descend_front, drawn_next, on_line, passed_here}
@@ -102,25 +103,6 @@ lowest_least u (w ∷ ws) d v h =
       | inr k ↦ lowest_least w ws d.1 v k
     ]
 
-abbrev far_end : List Flip → ℤ → ℤ
-far_end [] a = a
-far_end (g ∷ gs) a = cond (int_le g.x1 (far_end gs a)) (far_end gs a) g.x1
-
-farther : (g : Flip) (x : ℤ) → (x ≤ℤ cond (int_le g.x1 x) x g.x1) × (g.x1 ≤ℤ cond (int_le g.x1 x) x g.x1)
-farther g x =
-    by_lt_z x g.x1
-    (λ l. subst (λ b. (x ≤ℤ cond b x g.x1) × (g.x1 ≤ℤ cond b x g.x1)) (sym (le_false g.x1 x l)) (omega (arith, ints), omega (arith, ints)))
-    (λ l. subst (λ b. (x ≤ℤ cond b x g.x1) × (g.x1 ≤ℤ cond b x g.x1)) (sym (le_true g.x1 x l)) (omega (arith, ints), l))
-
-all_nearer : (gs : List Flip) (a : ℤ) → AllByRecursion (λ g. g.x1 ≤ℤ far_end gs a) gs × (a ≤ℤ far_end gs a)
-all_nearer [] a = (tt, omega (arith, ints))
-all_nearer (g ∷ gs) a =
-    let rest = all_nearer gs a in
-    let step = farther g (far_end gs a) in
-    let k : a ≤ℤ far_end gs a = rest.1 in
-    let m : far_end gs a ≤ℤ far_end (g ∷ gs) a = step.0 in
-    ((step.1, all_weaker (λ h. h.x1 ≤ℤ far_end gs a) (λ h. h.x1 ≤ℤ far_end (g ∷ gs) a) (λ h o. omega (arith, ints)) gs rest.0), omega (arith, ints))
-
 none_far : (gs : List Flip) (x : ℤ) → AllByRecursion (λ g. g.x1 ≤ℤ x) gs → is_odd gs x ≡ false
 none_far [] x a = refl
 none_far (g ∷ gs) x a = ap (λ b. exactly_one b (is_odd gs x)) (between_past g.x0 g.x1 x a.0) ∙ none_far gs x a.1
@@ -153,22 +135,6 @@ module _ (set : Squares) (left : List Flip) (f : Flip) (front over back : List U
       ∙ (st.west ∙ sym (ap right_of (last_is v vs)))
 
 -- ---- one more flip
-
-stand_on : (f g : Flip) (gs : List Flip) → StandsBefore f g → g.x0 <ℤ g.x1 → AllByRecursion (StandsBefore g) gs → AllByRecursion (StandsBefore f) gs
-stand_on f g gs s w a =
-    all_weaker (StandsBefore g) (StandsBefore f) (λ h k. elim s [
-      | inl l ↦ inl (elim k [ inl m ↦ omega (arith, ints) | inr e ↦ let q : g.y ≡ h.y = e.0 in omega (arith, ints) ])
-      | inr e ↦
-          let q : f.y ≡ g.y = e.0 in
-          elim k [
-            | inl m ↦ inl (omega (arith, ints))
-            | inr o ↦ inr (e.0 ∙ o.0, let a : f.x1 <ℤ g.x0 = e.1 in let b : g.x1 <ℤ h.x0 = o.1 in omega (arith, ints))
-          ]
-    ]) gs a
-
-all_behind : (f : Flip) (fs : List Flip) → AreSorted (f ∷ fs) → AllByRecursion (StandsBefore f) fs
-all_behind f [] s = tt
-all_behind f (g ∷ gs) s = (s.1, stand_on f g gs s.1 s.2.0 (all_behind g gs s.2))
 
 -- a flip among sorted ones
 pub record IsAmong (before : List Flip) (f : Flip) (behind : List Flip) : Type 0 where

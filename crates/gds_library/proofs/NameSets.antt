@@ -1,5 +1,5 @@
 -- Names: without their padding, and in a set of them.
-use Rattle.std.proofs.Common.{◌≡◌, refl, sym, ◌∙◌, ap, subst, ℕ, suc, ◌-◌, ◌<◌, Bool, true, false, ◌||◌, if◌then◌else◌, ◌==◌, List, [], ◌∷◌, ◌++◌, length, take, drop, map, arith, Option, Some, Vec, Global, inl, inr}
+use Rattle.std.proofs.Common.{◌≡◌, refl, sym, ◌∙◌, ap, ℕ, suc, ◌-◌, ◌<◌, Bool, true, false, ◌||◌, if◌then◌else◌, List, [], ◌∷◌, ◌++◌, length, take, drop, map, arith, Some, Vec, Global}
 use Rattle.std.specs.List.{All, list_any, slice_get}
 use Rattle.std.specs.declared.cmp.Ordering.{Ordering}
 use Rattle.std.specs.declared.cmp.Ordering.TheVariants.{Less, Equal, Greater}
@@ -10,8 +10,9 @@ use Rattle.std.specs.Cmp.Lexicographic.{slice_cmp}
 use Rattle.std.specs.Str.{bytes_eq}
 use Rattle.std.proofs.lemmas.Map.Text.{is_eq-slice_cmp}
 use Rattle.std.proofs.lemmas.Slice.Eq.{bytes_eq-Decides}
+use Rattle.list_facts.proofs.Members.{any_agree}
 use Rattle.gds_library.specs.Facts.{has_name}
-use Rattle.std.proofs.lemmas.Bool.{ne_eqb, eq-eqb, cases_Bool, true≢false}
+use Rattle.std.proofs.lemmas.Bool.{ne_eqb}
 use Rattle.std.proofs.lemmas.List.{take-append-drop}
 use Rattle.gds_library.specs.Fields.{padded, name}
 
@@ -66,10 +67,6 @@ pub any_of_map : {X Y : Type 0} (f : X → Y) (test : Y → Bool) (xs : List X) 
 any_of_map f test [] = refl
 any_of_map f test (x ∷ xs) = ap (λ t. test (f x) || t) (any_of_map f test xs)
 
-pub any_agree : {X : Type 0} (test other : X → Bool) → ((x : X) → test x ≡ other x) → (xs : List X) → list_any test xs ≡ list_any other xs
-any_agree test other same [] = refl
-any_agree test other same (x ∷ xs) = ap (λ t. t || list_any test xs) (same x) ∙ ap (λ t. other x || t) (any_agree test other same xs)
-
 -- ---- A set of texts
 
 pub has_is : (keys : List (Vec ℕ Global)) (those : List ℕ) → has_name (map (λ key. key.items) keys) those ≡ list_any (is_at (λ key. slice_cmp nat_cmp those key.items)) keys
@@ -80,13 +77,6 @@ has_is keys those =
 pub same_key : (those : List ℕ) (x y : Vec ℕ Global) → slice_cmp nat_cmp x.items y.items ≡ Equal → is_at (λ (key : Vec ℕ Global). slice_cmp nat_cmp those key.items) x ≡ is_at (λ (key : Vec ℕ Global). slice_cmp nat_cmp those key.items) y
 same_key those x y equal =
     ap (λ items. is_eq (slice_cmp nat_cmp those items)) ((bytes_eq-Decides x.items y.items).0 (sym (is_eq-slice_cmp x.items y.items) ∙ ap is_eq equal))
-
-pub bytes_apart : (a b : List ℕ) → bytes_eq a b ≡ false → bytes_eq b a ≡ false
-bytes_apart a b apart =
-    elim (cases_Bool (bytes_eq b a)) [
-      | inl e ↦ absurd (true≢false (sym ((bytes_eq-Decides a b).1 (sym ((bytes_eq-Decides b a).0 e))) ∙ apart))
-      | inr e ↦ e
-    ]
 
 absorbed : (test held : Bool) → (test ≡ true → held ≡ true) → held ≡ (test || held)
 absorbed true held h = h refl

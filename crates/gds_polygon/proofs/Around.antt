@@ -8,12 +8,13 @@ use Rattle.std.proofs.lemmas.Int.{ints, by_lt_z}
 use Rattle.std.proofs.lemmas.Nat.{mod-mul-add}
 use Rattle.std.specs.Ordering.{int_eq}
 use Rattle.list_facts.specs.Between.{between}
-use Rattle.list_facts.proofs.Tests.{and_false, le_false, le_from_false, le_true, lt_false, lt_true, eq_true, eq_false}
+use Rattle.list_facts.proofs.Tests.{and_false, le_false, le_from_false, le_true, lt_false, lt_true, not_le, eq_true, eq_false}
 use Rattle.drc_geom.specs.declared.point.Pt.{Pt}
 use Rattle.drc_geom.specs.Winding.{rises_beside, winding}
 use Rattle.region_form.specs.declared.flip.Flip.{Flip}
 use Rattle.region_form.specs.Flips.{changes}
 use Rattle.region_sweep.specs.Counts.{times, times_up_to}
+use Rattle.region_sweep.proofs.Remainders.{difference_is}
 use Rattle.gds_polygon.specs.Outlines.{last_of, IsClosed, IsRightAngled}
 use Rattle.gds_polygon.specs.Working.Steps.{step, steps_of}
 use Rattle.gds_polygon.specs.Working.Windings.{turns}
@@ -49,14 +50,11 @@ beside false false = refl
 
 -- ---- Tests of a step
 
-past : (a y : ℤ) → int_lt y a ≡ not (int_le a y)
-past a y = by_lt_z y a (λ l. lt_true y a l ∙ sym (ap not (le_false a y l))) (λ l. lt_false y a l ∙ sym (ap not (le_true a y l)))
-
 up_to : (a x : ℤ) → int_le a x ≡ not (int_lt x a)
 up_to a x = by_lt_z x a (λ l. le_false a x l ∙ sym (ap not (lt_true x a l))) (λ l. le_true a x l ∙ sym (ap not (lt_false x a l)))
 
 rows_between : (a b y : ℤ) → between a b y ≡ (int_le a y && not (int_le b y))
-rows_between a b y = ap (λ t. int_le a y && t) (past b y)
+rows_between a b y = ap (λ t. int_le a y && t) (sym (not_le b y))
 
 columns_between : (a b x : ℤ) → between a b x ≡ (not (int_lt x a) && int_lt x b)
 columns_between a b x = ap (λ t. t && int_lt x b) (up_to a x)
@@ -190,13 +188,6 @@ wound (a ∷ points) x y closed right =
 
 -- ---- In 64 bits
 
-rearranged : (b n t : ℕ) → (b + n) + t ≡ (t + b) + n
-rearranged b n t = omega arith
-
-east_is : (b n k m : ℕ) → suc k ≡ m → n < m → ((b + n) + b * k) % m ≡ n
-east_is b n k m e l =
-    ap (λ t. t % m) (rearranged b n (b * k) ∙ ap (λ t. t + n) (sym (mul-suc b k) ∙ ap (λ t. b * t) e)) ∙ mod-mul-add b m n l
-
 regrouped : (b n m p q : ℕ) → p + (b + n) ≡ q + m → n ≤ m → b + p ≡ q + (m - n)
 regrouped b n m p q e l = omega arith
 
@@ -218,7 +209,7 @@ inside_general win east west k m e small small' is = elim (eqb_tells east west) 
   | inl t ↦
       let same : east ≡ west = t.1 in
       let plain : east ≡ west + 0 = omega arith in
-      let none : (east + west * k) % m ≡ 0 = ap (λ n. (n + west * k) % m) plain ∙ east_is west 0 k m e (omega arith) in
+      let none : (east + west * k) % m ≡ 0 = ap (λ n. (n + west * k) % m) plain ∙ difference_is west 0 k m e (omega arith) in
       let flat : win ≡ pos 0 = omega (arith, ints) in
       ap (λ n. not (eqb n 0)) none ∙ sym (ap not (eq_true win (pos 0) flat))
   | inr f ↦
@@ -235,7 +226,7 @@ inside_general win east west k m e small small' is = elim (eqb_tells east west) 
             let n = east - west in
             let plain : east ≡ west + n = omega arith in
             let some : n ≡ 0 → ⊥ = λ z. f.1 (omega arith) in
-            let counted : (east + west * k) % m ≡ n = ap (λ t. (t + west * k) % m) plain ∙ east_is west n k m e (omega arith) in
+            let counted : (east + west * k) % m ≡ n = ap (λ t. (t + west * k) % m) plain ∙ difference_is west n k m e (omega arith) in
             ap (λ t. not (eqb t 0)) counted ∙ turned win n some apart
       ]
 ]
@@ -246,4 +237,4 @@ inside_wound win east west small small' is = inside_general win east west (2 ^ 6
 pub none_turned : (n : ℕ) → not (eqb (turns n n) 0) ≡ false
 none_turned n =
     let e : n ≡ n + 0 = omega arith in
-    ap (λ t. not (eqb t 0)) (ap (λ t. turns t n) e ∙ east_is n 0 (2 ^ 64 - 1) (2 ^ 64) refl (lit< tt))
+    ap (λ t. not (eqb t 0)) (ap (λ t. turns t n) e ∙ difference_is n 0 (2 ^ 64 - 1) (2 ^ 64) refl (lit< tt))

@@ -1,10 +1,11 @@
 -- The steps of an outline, point by point; they are wide, and no more than its points.
-use Rattle.std.proofs.Common.{◌≡◌, refl, sym, ◌∙◌, ap, ℕ, suc, ◌+◌, ◌≤◌, Bool, true, false, cond, ◌&&◌, ℤ, ◌<ℤ◌, int_lt, int_le, List, [], ◌∷◌, ◌++◌, length, append_assoc, arith}
+use Rattle.std.proofs.Common.{◌≡◌, refl, sym, ◌∙◌, ap, ℕ, suc, ◌≤◌, Bool, true, false, cond, ◌&&◌, ℤ, ◌<ℤ◌, int_lt, int_le, List, [], ◌∷◌, ◌++◌, length, append_assoc, arith}
 use Rattle.list_facts.proofs.Tests.{lt_from_true}
 use Rattle.drc_geom.specs.declared.point.Pt.{Pt}
 use Rattle.region_form.specs.declared.flip.Flip.{Flip}
 use Rattle.region_form.specs.Flips.{changes}
 use Rattle.region_sweep.specs.Counts.{AreWide, times_up_to}
+use Rattle.region_sweep.proofs.Remainders.{few_more}
 use Rattle.gds_polygon.specs.Working.Steps.{step, steps_of}
 
 -- ---- They are wide
@@ -31,13 +32,9 @@ steps_few east (a ∷ []) = omega arith
 steps_few true (a ∷ b ∷ points) = few_if (int_lt a.x b.x) _ (steps_of true (b ∷ points)) (length (b ∷ points)) (steps_few true (b ∷ points))
 steps_few false (a ∷ b ∷ points) = few_if (int_lt b.x a.x) _ (steps_of false (b ∷ points)) (length (b ∷ points)) (steps_few false (b ∷ points))
 
-up_to_more : (b : Bool) (n m : ℕ) → n ≤ m → cond b (n + 1) n ≤ suc m
-up_to_more true n m l = omega arith
-up_to_more false n m l = omega arith
-
 pub up_to_few : (fs : List Flip) (x y : ℤ) → times_up_to fs x y ≤ length fs
 up_to_few [] x y = omega arith
-up_to_few (f ∷ fs) x y = up_to_more (int_le f.y y && changes f x) (times_up_to fs x y) (length fs) (up_to_few fs x y)
+up_to_few (f ∷ fs) x y = few_more (int_le f.y y && changes f x) (times_up_to fs x y) (length fs) (up_to_few fs x y)
 
 -- ---- One step more
 

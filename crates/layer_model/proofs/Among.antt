@@ -8,6 +8,7 @@ use Rattle.std.proofs.lemmas.Bool.{eq-eqb, ne_eqb, cases_lt}
 use Rattle.std.proofs.lemmas.List.Elements.{All-from_get_or}
 use Rattle.std.proofs.lemmas.List.Folds.{list_any_at, list_any_none}
 use Rattle.std.proofs.lemmas.List.Sorted.{searched}
+use Rattle.list_facts.proofs.Members.{any_agree}
 use Rattle.layer_model.specs.declared.map_row.MapRow.{MapRow}
 use Rattle.layer_model.specs.DrawnNumbers.{Reading, number_of, names, goes_to, takes}
 
@@ -37,10 +38,6 @@ any_or : {X : Type 0} (p q : X → Bool) (xs : List X) → list_any (λ x. p x |
 any_or p q [] = refl
 any_or p q (x ∷ xs) = ap (λ b. (p x || q x) || b) (any_or p q xs) ∙ regroup (p x) (q x) (list_any p xs) (list_any q xs)
 
-any_same : {X : Type 0} (p q : X → Bool) → ((x : X) → p x ≡ q x) → (xs : List X) → list_any p xs ≡ list_any q xs
-any_same p q e [] = refl
-any_same p q e (x ∷ xs) = ap (λ b. b || list_any p xs) (e x) ∙ ap (λ b. q x || b) (any_same p q e xs)
-
 any_and : {X : Type 0} (a : Bool) (p : X → Bool) (xs : List X) → list_any (λ x. a && p x) xs ≡ (a && list_any p xs)
 any_and true p xs = refl
 any_and false p xs = any_nothing xs
@@ -52,7 +49,7 @@ swapped f xs (y ∷ ys) = ap (λ b. list_any (λ x. f x y) xs || b) (swapped f x
 -- a target of a row is read where a number that is read is a target
 pub read_by_a_row : (rows : List MapRow) (layer datatype : ℕ) (numbers : List ℕ) → list_any (names layer datatype) rows ≡ true → list_any (λ row. names layer datatype row && list_any (λ n. row.target == n) numbers) rows ≡ list_any (goes_to rows layer datatype) numbers
 read_by_a_row rows layer datatype numbers named =
-    any_same (λ row. names layer datatype row && list_any (λ n. row.target == n) numbers) (λ row. list_any (λ n. names layer datatype row && (row.target == n)) numbers) (λ row. sym (any_and (names layer datatype row) (λ n. row.target == n) numbers)) rows
+    any_agree (λ row. names layer datatype row && list_any (λ n. row.target == n) numbers) (λ row. list_any (λ n. names layer datatype row && (row.target == n)) numbers) (λ row. sym (any_and (names layer datatype row) (λ n. row.target == n) numbers)) rows
     ∙ sym (swapped (λ row n. names layer datatype row && (row.target == n)) rows numbers)
     ∙ ap (λ b. list_any (λ n. if b then list_any (λ row. names layer datatype row && (row.target == n)) rows else (layer == n)) numbers) (sym named)
 

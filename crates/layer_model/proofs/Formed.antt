@@ -2,6 +2,7 @@
 use Rattle.std.proofs.Common.{◌≡◌, ◌↔◌, ℕ, zero, suc, ◌+◌, ◌<◌, ◌^◌, IsTrue, nat_lt, List, length, Option, None, Some, inl, inr, refl, sym, ◌∙◌, ap, subst, arith}
 use Rattle.std.proofs.lemmas.Bool.Decides.{nat_tests}
 use Rattle.std.proofs.lemmas.Bool.{cases_eq}
+use Rattle.std.proofs.lemmas.Option.{same_Some}
 use Rattle.std.specs.Prelude.{slice_get}
 use Rattle.layer_model.specs.declared.wiring.Wire.{Wire}
 use Rattle.layer_model.specs.Wirings.{place_of, input_from, IsWiring}
@@ -21,18 +22,15 @@ formed_from w n p q o = record { lower = by_place; in_order = o }
     by_place (suc zero) j e = q j e
     by_place (suc (suc k)) j e = absurd cc
 
-same_some : (a j : ℕ) → Some a ≡ Some j → a ≡ j
-same_some a j e = cc
-
 pub formed_one : (w : Wire) (n a : ℕ) → w.first ≡ Some a → w.second ≡ None → IsTrue (nat_lt a n) ↔ IsFormed w n
 formed_one w n a p q = (
-  λ t. formed_from w n (λ j e. let x = same_some a j (sym p ∙ e) in let y = from_test a n t in omega arith) (λ j e. absurd (let x : Some j ≡ None = sym e ∙ q in cc)) (λ e. absurd (let x : Some a ≡ None = sym p ∙ e in cc)),
+  λ t. formed_from w n (λ j e. let x = same_Some a j (sym p ∙ e) in let y = from_test a n t in omega arith) (λ j e. absurd (let x : Some j ≡ None = sym e ∙ q in cc)) (λ e. absurd (let x : Some a ≡ None = sym p ∙ e in cc)),
   λ f. to_test a n (f.lower 0 a p),
 )
 
 pub formed_two : (w : Wire) (n a b : ℕ) → w.first ≡ Some a → w.second ≡ Some b → a < n → IsTrue (nat_lt b n) ↔ IsFormed w n
 formed_two w n a b p q h = (
-  λ t. formed_from w n (λ j e. let x = same_some a j (sym p ∙ e) in omega arith) (λ j e. let x = same_some b j (sym q ∙ e) in let y = from_test b n t in omega arith) (λ e. absurd (let x : Some a ≡ None = sym p ∙ e in cc)),
+  λ t. formed_from w n (λ j e. let x = same_Some a j (sym p ∙ e) in omega arith) (λ j e. let x = same_Some b j (sym q ∙ e) in let y = from_test b n t in omega arith) (λ e. absurd (let x : Some a ≡ None = sym p ∙ e in cc)),
   λ f. to_test b n (f.lower 1 b q),
 )
 

@@ -9,7 +9,7 @@ use Rattle.ledger_history.specs.declared.event.Event.TheVariants.{Claim, Charge,
 use Rattle.ledger_history.specs.Histories.{Setup, operations, is_stopped}
 use Rattle.ledger_history.specs.Enabled.{Enabled, Legal}
 use Rattle.ledger_history.specs.Steps.{worker_of}
-use Rattle.ledger_table.proofs.Slots.{slot_written, slot_other}
+use Rattle.list_facts.proofs.Slots.{written, unwritten}
 use Rattle.ledger_table.proofs.Totals.{events_fit, inputs_at_most}
 use Rattle.ledger_core.specs.declared.condition.Condition.{Condition}
 use Rattle.ledger_core.specs.declared.condition.Condition.TheVariants.{Idle, Claimed, Charged, Published}
@@ -59,8 +59,8 @@ alone_after s w m new c d e p a q =
     subst (λ x. IsAlone s w x d) (sym q)
     (record {
       legal = (a, p.legal);
-      at = slot_written m.crew w d (slice_get_within m.crew w c p.at);
-      others = λ v f n g. p.others v f n (sym (slot_other m.crew w v d n) ∙ g);
+      at = written m.crew w d (slice_get_within m.crew w c p.at);
+      others = λ v f n g. p.others v f n (sym (unwritten m.crew w v d n) ∙ g);
     })
 
 -- a worker whose operation is dropped without an event
@@ -69,8 +69,8 @@ alone_dropped s w m new c p q =
     subst (λ x. IsAlone s w x Idle) (sym q)
     (record {
       legal = p.legal;
-      at = slot_written m.crew w Idle (slice_get_within m.crew w c p.at);
-      others = λ v f n g. p.others v f n (sym (slot_other m.crew w v Idle n) ∙ g);
+      at = written m.crew w Idle (slice_get_within m.crew w c p.at);
+      others = λ v f n g. p.others v f n (sym (unwritten m.crew w v Idle n) ∙ g);
     })
 
 -- ---- how it went on

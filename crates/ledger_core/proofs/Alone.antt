@@ -8,7 +8,7 @@ use Rattle.ledger_history.specs.declared.event.Event.{Event}
 use Rattle.ledger_history.specs.declared.event.Event.TheVariants.{Claim}
 use Rattle.ledger_history.specs.Histories.{Setup, operations, is_claimed, is_finished, is_stopped, held, IsComplete}
 use Rattle.ledger_history.specs.Enabled.{Legal, IsReady, IsNext, AllFinishedBelow}
-use Rattle.ledger_history.proofs.Choices.{clash}
+use Rattle.list_facts.proofs.Tests.{clash}
 use Rattle.ledger_history.proofs.Orders.{held_last, last_is_held}
 use Rattle.ledger_history.proofs.Holders.{claimer_is_there}
 use Rattle.ledger_history.proofs.Ends.{finished_stays, search_unfinished}
@@ -37,7 +37,7 @@ nobody_holds s t readers stocks crew w i q e =
     let f : Fits s t.events w Idle = subst (λ d. Fits s t.events w d) (q.idle w (get_or crew w Idle) g) (crewed.each w (get_or crew w Idle) g) in
     elim f [
       | inl a ↦ let x : Some i ≡ None = sym e ∙ a in cc
-      | inr a ↦ clash a q.runs
+      | inr a ↦ clash _ a q.runs
     ]
 
 -- the lowest unfinished operation is the next one

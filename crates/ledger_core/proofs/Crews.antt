@@ -9,13 +9,15 @@ use Rattle.ledger_history.specs.declared.event.Event.TheVariants.{Claim, Charge,
 use Rattle.ledger_history.specs.Histories.{Setup, is_claimed, is_charged, is_published, is_finished, is_stopped, last_claim, releases, held, if_unfinished}
 use Rattle.ledger_history.specs.Enabled.{Legal}
 use Rattle.ledger_history.specs.Steps.{worker_of}
-use Rattle.ledger_history.proofs.Choices.{clash, eqb_refl}
+use Rattle.list_facts.proofs.Tests.{clash}
+use Rattle.ledger_history.proofs.Choices.{eqb_itself}
 use Rattle.ledger_history.proofs.Orders.{charged_is_claimed, published_is_charged, held_last, last_is_held}
 use Rattle.ledger_history.proofs.Releases.{released_is_published}
 use Rattle.ledger_history.proofs.Holders.{one_holder}
 use Rattle.ledger_history.proofs.Ends.{publish_ends_its_own, release_ends_its_own, idle_from_none, idle_from_finished}
-use Rattle.ledger_table.proofs.Slots.{slot_is, slot_other}
-use Rattle.ledger_table.proofs.Holding.{unclaimed_unfinished}
+use Rattle.list_facts.proofs.Slots.{unwritten}
+use Rattle.ledger_table.proofs.Slots.{slot_is}
+use Rattle.ledger_table.proofs.Holding.{held_kept, unclaimed_unfinished}
 use Rattle.ledger_core.specs.declared.condition.Condition.{Condition}
 use Rattle.ledger_core.specs.declared.condition.Condition.TheVariants.{Idle, Claimed, Charged, Published}
 use Rattle.ledger_core.specs.Machines.{Fits}
@@ -29,11 +31,6 @@ record Apart (s : Setup) (h : List Event) (e : Event) (v : ℕ) : Type 0 where
   charged : (i : ℕ) → held s h v ≡ Some i → is_charged (e ∷ h) i ≡ is_charged h i
   published : (i : ℕ) → held s h v ≡ Some i → is_published (e ∷ h) i ≡ is_published h i
   released : (i : ℕ) → held s h v ≡ Some i → releases (e ∷ h) i ≡ releases h i
-
-ends_apart : (s : Setup) (h : List Event) (e : Event) (i : ℕ) (o : Option ℕ) → ((m : ℕ) → (m ≡ i → ⊥) → is_finished s (e ∷ h) m ≡ is_finished s h m) → (o ≡ Some i → ⊥)
-    → if_unfinished s (e ∷ h) o ≡ if_unfinished s h o
-ends_apart s h e i None p n = refl
-ends_apart s h e i (Some m) p n = ap (λ b. cond b None (Some m)) (p m (λ r. n (ap (λ k. Some k) r)))
 
 -- two workers hold two operations
 two_held : (s : Setup) (h : List Event) (v w i j : ℕ) → Legal s h → (v ≡ w → ⊥) → held s h w ≡ Some i → held s h v ≡ Some j → i ≡ j → ⊥
@@ -56,13 +53,13 @@ apart s h (Charge w i c) v l n = record {
   released = λ _ _. refl;
 }
 apart s h (Publish w i) v l n = record {
-  holds = ends_apart s h (Publish w i) i (last_claim h v) (publish_ends_its_own s h w i) (last_apart s h v w i l.1 n (l.0).holds);
+  holds = held_kept s h (Publish w i) i (last_claim h v) (publish_ends_its_own s h w i) (last_apart s h v w i l.1 n (l.0).holds);
   charged = λ _ _. refl;
   published = λ j q. ap (λ b. b || is_published h j) (ne_eqb i j (two_held s h v w i j l.1 n (l.0).holds q));
   released = λ _ _. refl;
 }
 apart s h (Release w i k) v l n = record {
-  holds = ends_apart s h (Release w i k) i (last_claim h v) (release_ends_its_own s h w i k) (last_apart s h v w i l.1 n (l.0).holds);
+  holds = held_kept s h (Release w i k) i (last_claim h v) (release_ends_its_own s h w i k) (last_apart s h v w i l.1 n (l.0).holds);
   charged = λ _ _. refl;
   published = λ _ _. refl;
   released = λ j q. ap (λ b. cond b 1 0 + releases h j) (ne_eqb i j (two_held s h v w i j l.1 n (l.0).holds q)) ∙ omega arith;
@@ -92,7 +89,7 @@ crew_written s h g crew w c p q f =
       all = length-set crew w c ∙ q.all;
       each = λ v d r. elim (cases_eq v w) [
         | inl t ↦ subst (λ k. Fits s g k d) (sym t) (subst (λ x. Fits s g w x) (slot_is crew w c d (subst (λ k. slice_get (set crew w c) k ≡ Some d) t r)) f)
-        | inr t ↦ p v d t (q.each v d (sym (slot_other crew w v c t) ∙ r))
+        | inr t ↦ p v d t (q.each v d (sym (unwritten crew w v c t) ∙ r))
       ];
     }
 
@@ -108,27 +105,27 @@ crew_dropped s h crew w t q = crew_written s h h crew w Idle (λ v d n r. r) q (
 
 pub fits_claim : (s : Setup) (h : List Event) (w i : ℕ) → Legal s (Claim w i ∷ h) → Fits s (Claim w i ∷ h) w (Claimed i)
 fits_claim s h w i l = (
-  last_is_held s (Claim w i ∷ h) w i (ap (λ b. cond b (Some i) (last_claim h w)) (eqb_refl w)) (unclaimed_unfinished s h i l.1 (l.0).next.ready.unclaimed),
-  elim (cases_Bool (is_charged h i)) [ inl p ↦ clash (charged_is_claimed s h i l.1 p) (l.0).next.ready.unclaimed | inr p ↦ p ],
+  last_is_held s (Claim w i ∷ h) w i (ap (λ b. cond b (Some i) (last_claim h w)) (eqb_itself w)) (unclaimed_unfinished s h i l.1 (l.0).next.ready.unclaimed),
+  elim (cases_Bool (is_charged h i)) [ inl p ↦ clash _ (charged_is_claimed s h i l.1 p) (l.0).next.ready.unclaimed | inr p ↦ p ],
 )
 
 unpublished : (s : Setup) (h : List Event) (i : ℕ) → Legal s h → is_charged h i ≡ false → is_published h i ≡ false
-unpublished s h i l u = elim (cases_Bool (is_published h i)) [ inl p ↦ clash (published_is_charged s h i l p) u | inr p ↦ p ]
+unpublished s h i l u = elim (cases_Bool (is_published h i)) [ inl p ↦ clash _ (published_is_charged s h i l p) u | inr p ↦ p ]
 
 pub fits_charge : (s : Setup) (h : List Event) (w i c : ℕ) → Legal s (Charge w i c ∷ h) → Fits s (Charge w i c ∷ h) w (Charged i)
-fits_charge s h w i c l = ((l.0).holds, or_left (eqb i i) (is_charged h i) (eqb_refl i), unpublished s h i l.1 (l.0).uncharged)
+fits_charge s h w i c l = ((l.0).holds, or_left (eqb i i) (is_charged h i) (eqb_itself i), unpublished s h i l.1 (l.0).uncharged)
 
 pub no_release : (s : Setup) (h : List Event) (i : ℕ) → Legal s h → is_published h i ≡ false → releases h i ≡ 0
 no_release s h i l u = by_count (releases h i) (released_is_published s h i l)
   where
     by_count : (n : ℕ) → (0 < n → is_published h i ≡ true) → n ≡ 0
     by_count zero p = refl
-    by_count (suc n) p = absurd (clash (p (omega arith)) u)
+    by_count (suc n) p = absurd (clash _ (p (omega arith)) u)
 
 pub fits_publish : (s : Setup) (h : List Event) (w i : ℕ) → Legal s (Publish w i ∷ h) → is_finished s (Publish w i ∷ h) i ≡ false → Fits s (Publish w i ∷ h) w (Published i 0)
 fits_publish s h w i l f = (
   last_is_held s (Publish w i ∷ h) w i (held_last s h w i (l.0).holds).0 f,
-  or_left (eqb i i) (is_published h i) (eqb_refl i),
+  or_left (eqb i i) (is_published h i) (eqb_itself i),
   no_release s h i l.1 (l.0).unpublished,
 )
 
@@ -137,7 +134,7 @@ fits_release s h w i k l f =
     let o : k ≡ releases h i = (l.0).in_order in (
       last_is_held s (Release w i k ∷ h) w i (held_last s h w i (l.0).holds).0 f,
       (l.0).published,
-      ap (λ b. cond b 1 0 + releases h i) (eqb_refl i) ∙ omega arith,
+      ap (λ b. cond b 1 0 + releases h i) (eqb_itself i) ∙ omega arith,
     )
 
 pub fits_published : (s : Setup) (h : List Event) (w i : ℕ) → Legal s (Publish w i ∷ h) → is_finished s (Publish w i ∷ h) i ≡ true → Fits s (Publish w i ∷ h) w Idle
@@ -147,4 +144,4 @@ pub fits_released : (s : Setup) (h : List Event) (w i k : ℕ) → Legal s (Rele
 fits_released s h w i k l f = inl (idle_from_finished s (Release w i k ∷ h) w i (held_last s h w i (l.0).holds).0 f)
 
 pub fits_stop : (s : Setup) (h : List Event) (w : ℕ) → Fits s (Stop w ∷ h) w Idle
-fits_stop s h w = inl (idle_from_none s (Stop w ∷ h) w (ap (λ b. cond b None (last_claim h w)) (eqb_refl w)))
+fits_stop s h w = inl (idle_from_none s (Stop w ∷ h) w (ap (λ b. cond b None (last_claim h w)) (eqb_itself w)))

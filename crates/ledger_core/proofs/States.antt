@@ -10,7 +10,7 @@ use Rattle.ledger_history.specs.declared.event.Event.TheVariants.{Claim, Charge,
 use Rattle.ledger_history.specs.Histories.{Setup, is_published, is_live, is_stopped, held, total, is_let_go}
 use Rattle.ledger_history.specs.Enabled.{Enabled, Legal, IsNext, AllFinishedBelow}
 use Rattle.ledger_history.specs.Steps.{worker_of}
-use Rattle.ledger_history.proofs.Choices.{clash}
+use Rattle.list_facts.proofs.Tests.{clash}
 use Rattle.ledger_table.specs.Ledgers.{Ledger, setup_with, setup_of, charged_cost, with_event, IsAllowed}
 use Rattle.ledger_table.proofs.Slots.{slot_replicated}
 use Rattle.ledger_table.proofs.Costs.{next_at}
@@ -69,7 +69,7 @@ may_claim s t readers stocks crew w i p e r n =
     record {
       runs = r;
       worker = let b = slice_get_within crew w Idle e in let d = p.manned.all in omega arith;
-      idle = elim (p.manned.each w Idle e) [ inl f ↦ f | inr f ↦ clash f r ];
+      idle = elim (p.manned.each w Idle e) [ inl f ↦ f | inr f ↦ clash _ f r ];
       next = subst (λ x. IsNext x t.events i) (same_setup s t readers stocks crew p) (next_at t (charged_cost t.events) s.cost t.events i n);
     }
 
@@ -135,8 +135,8 @@ pub not_admitted : (s : Setup) (t : Ledger) (readers : List ℕ) (stocks : List 
     → IsTrue b ↔ ((total (setup_of t) t.events + n ≤ t.budget) ⊎ AllFinishedBelow (setup_of t) t.events i) → b ≡ false → (s.budget < total s t.events + n) × (AllFinishedBelow s t.events i → ⊥)
 not_admitted s t readers stocks crew b i n p a e =
     let r = admission s t readers stocks crew b i n p a in (
-      elim (cases_lt s.budget (total s t.events + n)) [ inl q ↦ q | inr q ↦ clash (r.1 (inl q)) e ],
-      λ q. clash (r.1 (inr q)) e,
+      elim (cases_lt s.budget (total s t.events + n)) [ inl q ↦ q | inr q ↦ clash _ (r.1 (inl q)) e ],
+      λ q. clash _ (r.1 (inr q)) e,
     )
 
 pub may_charge : (s : Setup) (t : Ledger) (readers : List ℕ) (stocks : List Stock) (crew : List Condition) (b : Bool) (w i n : ℕ) → IsState s t readers stocks crew → slice_get crew w ≡ Some (Claimed i)

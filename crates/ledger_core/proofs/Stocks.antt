@@ -9,12 +9,14 @@ use Rattle.ledger_history.specs.declared.event.Event.{Event}
 use Rattle.ledger_history.specs.declared.event.Event.TheVariants.{Claim, Charge, Publish, Release, Stop}
 use Rattle.ledger_history.specs.Histories.{Setup, is_claimed, is_published, is_released, is_let_go, is_live}
 use Rattle.ledger_history.specs.Enabled.{Legal, IsReady}
-use Rattle.ledger_history.proofs.Choices.{clash, eqb_refl}
+use Rattle.list_facts.proofs.Tests.{clash}
+use Rattle.ledger_history.proofs.Choices.{eqb_itself}
 use Rattle.ledger_history.proofs.Orders.{claimed_has_inputs}
 use Rattle.ledger_history.proofs.Returns.{reads_at, readers_by_places}
 use Rattle.ledger_history.proofs.Lives.{live_from, reader_keeps, released_is_claimed, let_go_stays}
 use Rattle.ledger_history.proofs.Sums.{sum_step, sum_same}
-use Rattle.ledger_table.proofs.Slots.{slot_is, slot_other}
+use Rattle.list_facts.proofs.Slots.{unwritten}
+use Rattle.ledger_table.proofs.Slots.{slot_is}
 use Rattle.ledger_table.proofs.Totals.{let_go_same}
 use Rattle.ledger_core.specs.Tokens.{Stock}
 use Rattle.ledger_core.specs.States.{StockOf, StocksWith, StocksOf, open_places, due}
@@ -31,14 +33,14 @@ one_lent s h places stocks j x y e r p =
       all = length-set stocks j y ∙ p.all;
       each = λ m z g. elim (cases_eq m j) [
         | inl t ↦ subst (λ k. StockOf s h places k z) (sym t) (subst (λ w. StockOf s h places j w) (slot_is stocks j y z (subst (λ k. slice_get (set stocks j y) k ≡ Some z) t g)) (at_j (p.each j x e)))
-        | inr t ↦ other m z t (p.each m z (sym (slot_other stocks j m y t) ∙ g))
+        | inr t ↦ other m z t (p.each m z (sym (unwritten stocks j m y t) ∙ g))
       ];
     }
   where
     at_j : StockOf s h (λ m. one_if_at (Some j) m + places m) j x → StockOf s h places j y
     at_j q = record {
       op = sym (ap (λ w. w.op) r) ∙ q.op;
-      count = one_less (is_live s h j) y.count (places j) (sym (ap (λ w. w.count) r) ∙ (q.count ∙ ap (λ b. cond (is_live s h j) (1 + (cond b 1 0 + places j)) 0) (eqb_refl j)));
+      count = one_less (is_live s h j) y.count (places j) (sym (ap (λ w. w.count) r) ∙ (q.count ∙ ap (λ b. cond (is_live s h j) (1 + (cond b 1 0 + places j)) 0) (eqb_itself j)));
     }
 
     other : (m : ℕ) (z : Stock) → (m ≡ j → ⊥) → StockOf s h (λ k. one_if_at (Some j) k + places k) m z → StockOf s h places m z
@@ -69,7 +71,7 @@ stocks_claim s h w i stocks l p =
         (λ m n. sym (ap (λ b. cond (b || is_claimed h m) 0 (one_if_at (input s.wires m 0) j + one_if_at (input s.wires m 1) j)) (ne_eqb i m (λ e. n (sym e)))))
         (ap (λ b. cond b 0 (one_if_at (input s.wires i 0) j + one_if_at (input s.wires i 1) j)) (l.0).next.ready.unclaimed
         ∙ (omega arith
-        ∙ ap (λ b. one_if_at (input s.wires i 0) j + one_if_at (input s.wires i 1) j + cond (b || is_claimed h i) 0 (one_if_at (input s.wires i 0) j + one_if_at (input s.wires i 1) j)) (sym (eqb_refl i))))
+        ∙ ap (λ b. one_if_at (input s.wires i 0) j + one_if_at (input s.wires i 1) j + cond (b || is_claimed h i) 0 (one_if_at (input s.wires i 0) j + one_if_at (input s.wires i 1) j)) (sym (eqb_itself i))))
         ∙ omega arith
 
 -- the inputs of a ready operation are live
@@ -78,7 +80,7 @@ ready_input_is_live s h i k j l r e =
     live_from s h j (r.inputs k j e) (reader_keeps s h j l (record { op = i; place = k; reads = e; unreleased = out }))
   where
     out : is_released h i k ≡ false
-    out = elim (cases_Bool (is_released h i k)) [ inl p ↦ clash (released_is_claimed s h i k l p) r.unclaimed | inr p ↦ p ]
+    out = elim (cases_Bool (is_released h i k)) [ inl p ↦ clash _ (released_is_claimed s h i k l p) r.unclaimed | inr p ↦ p ]
 
 -- a publish puts the copies of its layer in their place
 pub stocks_publish : (s : Setup) (h : List Event) (w i : ℕ) (stocks : List Stock) → IsWiring s.wires → Legal s (Publish w i ∷ h) → StocksOf s h stocks
@@ -90,7 +92,7 @@ stocks_publish s h w i stocks v l p =
         | inl t ↦ subst (λ k. StockOf s (Publish w i ∷ h) (due s (Publish w i ∷ h)) k x) (sym t)
             (subst (λ y. StockOf s (Publish w i ∷ h) (due s (Publish w i ∷ h)) i y) (slot_is stocks i (record { op = i; count = reader_count s.wires i + 1 }) x (subst (λ k. slice_get (set stocks i (record { op = i; count = reader_count s.wires i + 1 })) k ≡ Some x) t g))
             (record { op = refl; count = omega (arith, all_due) ∙ sym (ap (λ b. cond b (1 + due s (Publish w i ∷ h) i) 0) live) }))
-        | inr t ↦ let q = p.each j x (sym (slot_other stocks i j (record { op = i; count = reader_count s.wires i + 1 }) t) ∙ g) in record { op = q.op; count = q.count ∙ same_count s h (Publish w i) j (λ _. refl) (other j t) }
+        | inr t ↦ let q = p.each j x (sym (unwritten stocks i j (record { op = i; count = reader_count s.wires i + 1 }) t) ∙ g) in record { op = q.op; count = q.count ∙ same_count s h (Publish w i) j (λ _. refl) (other j t) }
       ];
     }
   where
@@ -101,14 +103,14 @@ stocks_publish s h w i stocks v l p =
     other j n = ap (λ b. (b || is_published h j) && not (is_let_go s (Publish w i ∷ h) j)) (ne_eqb i j (λ e. n (sym e))) ∙ ap (λ b. is_published h j && not b) (kept j)
 
     live : is_live s (Publish w i ∷ h) i ≡ true
-    live = live_from s (Publish w i ∷ h) i (or_left (eqb i i) (is_published h i) (eqb_refl i)) (kept i ∙ and_left (is_published h i) _ (l.0).unpublished)
+    live = live_from s (Publish w i ∷ h) i (or_left (eqb i i) (is_published h i) (eqb_itself i)) (kept i ∙ and_left (is_published h i) _ (l.0).unpublished)
 
     at : (o : Option ℕ) → (o ≡ Some i → ⊥) → one_if_at o i ≡ 0
     at None n = refl
     at (Some m) n = ap (λ b. cond b 1 0) (ne_eqb m i (λ e. n (ap (λ k. Some k) e)))
 
     unread : (m k : ℕ) → is_claimed h m ≡ true → one_if_at (input s.wires m k) i ≡ 0
-    unread m k c = at (input s.wires m k) (λ e. clash (claimed_has_inputs s h m k i l.1 c e) (l.0).unpublished)
+    unread m k c = at (input s.wires m k) (λ e. clash _ (claimed_has_inputs s h m k i l.1 c e) (l.0).unpublished)
 
     each_due : (m : ℕ) → open_places s h i m ≡ reads_at s i m
     each_due m = elim (cases_Bool (is_claimed h m)) [
@@ -128,7 +130,7 @@ stocks_release s h w i k j stocks v l e p = by_test (is_let_go s (Release w i k 
     other m n = ap (λ b. is_published h m && not b) (let_go_same s h (Release w i k) m v l (λ r. n (let x : Some j ≡ Some m = sym e ∙ r in cc)))
 
     stays : is_let_go s (Release w i k ∷ h) j ≡ false → is_let_go s h j ≡ false
-    stays f = elim (cases_Bool (is_let_go s h j)) [ inl q ↦ clash (let_go_stays s h (Release w i k) j l q) f | inr q ↦ q ]
+    stays f = elim (cases_Bool (is_let_go s h j)) [ inl q ↦ clash _ (let_go_stays s h (Release w i k) j l q) f | inr q ↦ q ]
 
     by_test : (b : Bool) → is_let_go s (Release w i k ∷ h) j ≡ b → StocksOf s (Release w i k ∷ h) (cond b (set stocks j (record { op = j; count = 0 })) stocks)
     by_test true f = record {
@@ -137,7 +139,7 @@ stocks_release s h w i k j stocks v l e p = by_test (is_let_go s (Release w i k 
         | inl t ↦ subst (λ n. StockOf s (Release w i k ∷ h) (due s (Release w i k ∷ h)) n x) (sym t)
             (subst (λ y. StockOf s (Release w i k ∷ h) (due s (Release w i k ∷ h)) j y) (slot_is stocks j (record { op = j; count = 0 }) x (subst (λ n. slice_get (set stocks j (record { op = j; count = 0 })) n ≡ Some x) t g))
             (record { op = refl; count = sym (ap (λ b. cond (is_published h j && not b) (1 + due s (Release w i k ∷ h) j) 0) f ∙ ap (λ b. cond b (1 + due s (Release w i k ∷ h) j) 0) (and_right (is_published h j) false refl)) }))
-        | inr t ↦ let q = p.each m x (sym (slot_other stocks j m (record { op = j; count = 0 }) t) ∙ g) in record { op = q.op; count = q.count ∙ same_count s h (Release w i k) m (λ _. refl) (other m t) }
+        | inr t ↦ let q = p.each m x (sym (unwritten stocks j m (record { op = j; count = 0 }) t) ∙ g) in record { op = q.op; count = q.count ∙ same_count s h (Release w i k) m (λ _. refl) (other m t) }
       ];
     }
     by_test false f = record {

@@ -7,7 +7,7 @@ use Rattle.ledger_history.specs.declared.event.Event.{Event}
 use Rattle.ledger_history.specs.declared.event.Event.TheVariants.{Publish, Release}
 use Rattle.ledger_history.specs.Histories.{Setup, is_published, is_finished, releases}
 use Rattle.ledger_history.specs.Enabled.{Enabled, Legal}
-use Rattle.ledger_history.proofs.Choices.{eqb_refl}
+use Rattle.ledger_history.proofs.Choices.{eqb_itself}
 use Rattle.ledger_history.proofs.Releases.{finished_by_count}
 use Rattle.ledger_core.specs.declared.condition.Condition.TheVariants.{Idle, Published}
 use Rattle.ledger_core.specs.declared.answers.Given.{Given}
@@ -21,7 +21,7 @@ use Rattle.ledger_core.proofs.Crews.{fits_publish, fits_published, fits_release,
 pub end_of_publish : (s : Setup) (h : List Event) (w i : ℕ) → IsWiring s.wires → Legal s (Publish w i ∷ h) → is_finished s (Publish w i ∷ h) i ≡ leb (input_count s.wires i) 0
 end_of_publish s h w i v l =
     finished_by_count s (Publish w i ∷ h) i v l
-    ∙ (ap (λ b. b && leb (input_count s.wires i) (releases h i)) (or_left (eqb i i) (is_published h i) (eqb_refl i))
+    ∙ (ap (λ b. b && leb (input_count s.wires i) (releases h i)) (or_left (eqb i i) (is_published h i) (eqb_itself i))
     ∙ ap (leb (input_count s.wires i)) (no_release s h i l.1 (l.0).unpublished))
 
 pub end_of_release : (s : Setup) (h : List Event) (w i k : ℕ) → IsWiring s.wires → Legal s (Release w i k ∷ h) → is_finished s (Release w i k ∷ h) i ≡ leb (input_count s.wires i) (k + 1)
@@ -29,7 +29,7 @@ end_of_release s h w i k v l =
     let o : k ≡ releases h i = (l.0).in_order in
     finished_by_count s (Release w i k ∷ h) i v l
     ∙ (ap (λ b. b && leb (input_count s.wires i) (releases (Release w i k ∷ h) i)) (l.0).published
-    ∙ ap (leb (input_count s.wires i)) (ap (λ b. cond b 1 0 + releases h i) (eqb_refl i) ∙ omega arith))
+    ∙ ap (leb (input_count s.wires i)) (ap (λ b. cond b 1 0 + releases h i) (eqb_itself i) ∙ omega arith))
 
 pub fits_after_publish : (s : Setup) (h : List Event) (w i : ℕ) → IsWiring s.wires → Legal s (Publish w i ∷ h) → Fits s (Publish w i ∷ h) w (condition_at s.wires i 0)
 fits_after_publish s h w i v l = by_test (leb (input_count s.wires i) 0) (end_of_publish s h w i v l)

@@ -14,7 +14,8 @@ use Rattle.ledger_history.specs.Histories.{Setup, operations, is_charged, is_pub
 use Rattle.ledger_history.specs.Enabled.{Legal, AllFinishedBelow}
 use Rattle.ledger_history.specs.Totals.{sum_to, live_cost, live_above, is_kept_for, solo_cost, greatest_solo}
 use Rattle.ledger_history.specs.Readers.{HasReader}
-use Rattle.ledger_history.proofs.Choices.{clash, eqb_refl}
+use Rattle.list_facts.proofs.Tests.{clash}
+use Rattle.ledger_history.proofs.Choices.{eqb_itself}
 use Rattle.ledger_history.proofs.Orders.{held_last, held_is_claimed, claimed_is_there}
 use Rattle.ledger_history.proofs.Releases.{finished_is_published}
 use Rattle.ledger_history.proofs.Returns.{one_at, no_third, no_wire, input_is_there}
@@ -49,7 +50,7 @@ above_after_charge s h w i c m l p =
     (claimed_is_there s h i l.1 (held_is_claimed s h w i (l.0).holds))
     (λ j n. ap (λ b. cond (ltb m j) (cond ((b || is_charged h j) && not (is_let_go s h j)) (s.cost j) 0) 0) (ne_eqb i j (λ e. n (sym e))))
     (ap (λ b. cond b (live_cost s (Charge w i c ∷ h) i) 0) (lt-ltb m i p)
-    ∙ (ap (λ b. cond ((b || is_charged h i) && not (is_let_go s h i)) (s.cost i) 0) (eqb_refl i)
+    ∙ (ap (λ b. cond ((b || is_charged h i) && not (is_let_go s h i)) (s.cost i) 0) (eqb_itself i)
     ∙ (ap (λ b. cond (not b) (s.cost i) 0) (uncharged_stays s h i l.1 (l.0).uncharged)
     ∙ sym (ap (λ b. c + cond (ltb m i) (cond (b && not (is_let_go s h i)) (s.cost i) 0) 0) (l.0).uncharged ∙ (ap (λ n. c + n) (zero_if (ltb m i)) ∙ add_zero c ∙ (l.0).cost)))))
   where
@@ -78,7 +79,7 @@ above_falls s h g k m p c q =
     by_gone true false false n r = omega arith
     by_gone true false true n r = omega arith
     by_gone true true true n r = omega arith
-    by_gone true true false n r = clash (r refl) refl
+    by_gone true true false n r = clash _ (r refl) refl
 
     by_tests : (j : ℕ) → live_cost s g j ≤ live_cost s h j
     by_tests j = subst (λ a. cond (a && not (is_let_go s g j)) (s.cost j) 0 ≤ live_cost s h j) (sym (c j)) (by_gone (is_charged h j) (is_let_go s h j) (is_let_go s g j) (s.cost j) (q j))
@@ -92,7 +93,7 @@ above_fits s (Charge w i c ∷ h) m l below u =
     elim (cases_lt m i) [
       | inl p ↦ elim (l.0).fits [
         | inl q ↦ let a = above_after_charge s h w i c m l p in let b = above_fits_total s h m l.1 in omega arith
-        | inr q ↦ clash (q m p) u
+        | inr q ↦ clash _ (q m p) u
       ]
       | inr p ↦ rw (above_same s h w i c m p) (above_fits s h m l.1 below u)
     ]
@@ -114,7 +115,7 @@ pub out_is_unfinished : (s : Setup) (h : List Event) (j : ℕ) (r : HasReader s 
 out_is_unfinished s h j r = by_place r.place r.reads r.unreleased
   where
     none_after : (a b c : Bool) → b ≡ false → (a && (b && c)) ≡ false
-    none_after true true c e = clash refl e
+    none_after true true c e = clash _ refl e
     none_after true false c e = refl
     none_after false b c e = refl
 
@@ -153,7 +154,7 @@ live_is_kept s h m j l below p q =
       | inr r ↦
           let u = out_is_unfinished s h j r in
           elim (cases_lt r.op m) [
-            | inl x ↦ clash (below r.op x) u
+            | inl x ↦ clash _ (below r.op x) u
             | inr x ↦ or_right (is_reported s.wires j) _ (lt-ltb 0 _ (reader_from s.wires m r.op r.place j x r.reads))
           ]
     ]
@@ -207,7 +208,7 @@ total_by_solo s h m l below there =
       where
         none_left : (a b : Bool) (n : ℕ) → b ≡ true → cond (a && not b) n 0 ≡ 0
         none_left true true n e = refl
-        none_left true false n e = clash e refl
+        none_left true false n e = clash _ e refl
         none_left false b n e = refl
 
     by_place : (j : ℕ) → live_cost s h j ≤ cond (ltb m j) (live_cost s h j) 0 + (cond (eqb j m) (s.cost m) 0 + cond (ltb j m) (cond (is_kept_for s m j) (s.cost j) 0) 0)

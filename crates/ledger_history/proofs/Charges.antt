@@ -6,7 +6,8 @@ use Rattle.ledger_history.specs.declared.event.Event.TheVariants.{Charge}
 use Rattle.ledger_history.specs.Histories.{Setup, operations, is_charged, is_let_go, charges_in, total}
 use Rattle.ledger_history.specs.Enabled.{Legal, AllFinishedBelow}
 use Rattle.ledger_history.specs.Totals.{sum_to, live_cost}
-use Rattle.ledger_history.proofs.Choices.{clash, eqb_refl}
+use Rattle.list_facts.proofs.Tests.{clash}
+use Rattle.ledger_history.proofs.Choices.{eqb_itself}
 use Rattle.ledger_history.proofs.Orders.{held_is_claimed, claimed_is_there, published_is_charged}
 use Rattle.ledger_history.proofs.Lives.{let_go_parts}
 use Rattle.ledger_history.proofs.Sums.{sum_step, sum_zero}
@@ -22,7 +23,7 @@ charges_by_operations s all (Charge w i c ∷ h) l =
     ∙ sym (sum_step (cost_in s all h) (cost_in s all (Charge w i c ∷ h)) (operations s) i (cond (is_let_go s all i) 0 c)
     (claimed_is_there s h i l.1 (held_is_claimed s h w i (l.0).holds))
     (λ j n. ap (λ b. cond ((b || is_charged h j) && not (is_let_go s all j)) (s.cost j) 0) (ne_eqb i j (λ e. n (sym e))))
-    (ap (λ b. cond ((b || is_charged h i) && not (is_let_go s all i)) (s.cost i) 0) (eqb_refl i)
+    (ap (λ b. cond ((b || is_charged h i) && not (is_let_go s all i)) (s.cost i) 0) (eqb_itself i)
     ∙ (by_test (is_let_go s all i) (s.cost i) c (l.0).cost
     ∙ sym (ap (λ b. cond (is_let_go s all i) 0 c + cond (b && not (is_let_go s all i)) (s.cost i) 0) (l.0).uncharged))))
   where
@@ -42,7 +43,7 @@ charges_same s a b (e ∷ h) p = charges_same s a b h p
 pub uncharged_stays : (s : Setup) (h : List Event) (i : ℕ) → Legal s h → is_charged h i ≡ false → is_let_go s h i ≡ false
 uncharged_stays s h i l u =
     elim (cases_Bool (is_let_go s h i)) [
-      | inl q ↦ clash (published_is_charged s h i l (let_go_parts s h i q).0) u
+      | inl q ↦ clash _ (published_is_charged s h i l (let_go_parts s h i q).0) u
       | inr q ↦ q
     ]
 

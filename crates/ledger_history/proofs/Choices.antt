@@ -1,10 +1,7 @@
 -- Small facts on tests and options that the laws share.
-use Rattle.std.proofs.Common.{◌≡◌, ◌⊎◌, ℕ, Bool, true, false, cond, inl, inr, Option, None, Some, refl, sym, ◌∙◌}
-use Rattle.std.proofs.lemmas.Bool.{true≢false, eq-eqb}
+use Rattle.std.proofs.Common.{◌≡◌, ◌⊎◌, ℕ, Bool, true, false, cond, inl, inr, Option, None, Some, refl}
+use Rattle.std.proofs.lemmas.Bool.{eq-eqb}
 use lib.Dec.{eqb}
-
-pub clash : {A : Type 0} {b : Bool} → b ≡ true → b ≡ false → A
-clash p q = absurd (true≢false (sym p ∙ q))
 
 -- what a choice between an option and another gives
 pub some_of_if : (b : Bool) (j i : ℕ) (o : Option ℕ) → cond b (Some j) o ≡ Some i → ((b ≡ true) × (j ≡ i)) ⊎ ((b ≡ false) × (o ≡ Some i))
@@ -15,5 +12,5 @@ pub some_of_none_if : (b : Bool) (i : ℕ) (o : Option ℕ) → cond b None o �
 some_of_none_if true i o e = absurd cc
 some_of_none_if false i o e = (refl, e)
 
-pub eqb_refl : (i : ℕ) → eqb i i ≡ true
-eqb_refl i = eq-eqb i i refl
+pub eqb_itself : (i : ℕ) → eqb i i ≡ true
+eqb_itself i = eq-eqb i i refl

@@ -10,7 +10,8 @@ use Rattle.ledger_history.specs.Histories.{Setup, operations, is_claimed, is_cha
 use Rattle.ledger_history.specs.Enabled.{Legal}
 use Rattle.ledger_history.specs.Totals.{sum_to, place_total}
 use Rattle.ledger_history.specs.Steps.{is_claim, is_charge, is_publish, is_release, is_stop, is_stop_of}
-use Rattle.ledger_history.proofs.Choices.{clash, eqb_refl, some_of_none_if}
+use Rattle.list_facts.proofs.Tests.{clash}
+use Rattle.ledger_history.proofs.Choices.{eqb_itself, some_of_none_if}
 use Rattle.ledger_history.proofs.Orders.{held_last, held_is_claimed, claimed_is_there, charged_is_claimed, published_is_charged}
 use Rattle.ledger_history.proofs.Releases.{releases_fit, finished_is_published, finished_has_releases}
 use Rattle.ledger_history.proofs.Holders.{claimer_is_there}
@@ -36,7 +37,7 @@ grows : (f g : ℕ → Bool) (n j : ℕ) → j < n → ((i : ℕ) → g i ≡ (e
 grows f g n j p q u =
     sum_step (λ i. one (f i)) (λ i. one (g i)) n j 1 p
     (λ i x. ap one (q i ∙ ap (λ b. b || f i) (ne_eqb j i (λ e. x (sym e)))))
-    (ap one (q j ∙ ap (λ b. b || f j) (eqb_refl j)) ∙ sym (ap (λ b. 1 + one b) u))
+    (ap one (q j ∙ ap (λ b. b || f j) (eqb_itself j)) ∙ sym (ap (λ b. 1 + one b) u))
 
 pub claims_by_operations : (s : Setup) (h : List Event) → Legal s h → count_by is_claim h ≡ sum_to (λ i. one (is_claimed h i)) (operations s)
 claims_by_operations s [] l = sym (sum_zero (λ i. one (is_claimed [] i)) (operations s) (λ i _. refl))
@@ -77,7 +78,7 @@ releases_by_count s (Release w j k ∷ h) l =
     count_cons is_release (Release w j k) h
     ∙ (ap (λ n. 1 + n) (releases_by_count s h l.1)
     ∙ sym (sum_step (releases h) (releases (Release w j k ∷ h)) (operations s) j 1 (claimed_is_there s h j l.1 (held_is_claimed s h w j (l.0).holds))
-    (λ i x. let z : one (eqb j i) ≡ 0 = ap one (ne_eqb j i (λ e. x (sym e))) in omega arith) (ap (λ b. cond b 1 0 + releases h j) (eqb_refl j))))
+    (λ i x. let z : one (eqb j i) ≡ 0 = ap one (ne_eqb j i (λ e. x (sym e))) in omega arith) (ap (λ b. cond b 1 0 + releases h j) (eqb_itself j))))
 releases_by_count s (Claim w j ∷ h) l = count_no is_release (Claim w j) h refl ∙ releases_by_count s h l.1
 releases_by_count s (Charge w j c ∷ h) l = count_no is_release (Charge w j c) h refl ∙ releases_by_count s h l.1
 releases_by_count s (Publish w j ∷ h) l = count_no is_release (Publish w j) h refl ∙ releases_by_count s h l.1
@@ -125,7 +126,7 @@ stops_once s (Claim v j ∷ h) w l =
   where
     none_yet : (g : List Event) → is_stopped g ≡ false → count_by (is_stop_of w) g ≡ 0
     none_yet [] r = refl
-    none_yet (Stop u ∷ g) r = clash refl r
+    none_yet (Stop u ∷ g) r = clash _ refl r
     none_yet (Claim u i ∷ g) r = count_no (is_stop_of w) (Claim u i) g refl ∙ none_yet g r
     none_yet (Charge u i c ∷ g) r = count_no (is_stop_of w) (Charge u i c) g refl ∙ none_yet g r
     none_yet (Publish u i ∷ g) r = count_no (is_stop_of w) (Publish u i) g refl ∙ none_yet g r
@@ -142,7 +143,7 @@ stops_once s (Stop v ∷ h) w l = by_worker (stops_once s h w l.1)
               let z : count_by (is_stop_of w) h ≡ 0 = b (l.0).op last in
               let t : eqb v w ≡ true = Rattle.std.proofs.lemmas.Bool.eq-eqb v w e in
               let k : one (eqb v w) ≡ 1 = ap one t in
-              (omega arith, λ i q. clash t (some_of_none_if (eqb v w) i (last_claim h w) q).0)
+              (omega arith, λ i q. clash _ t (some_of_none_if (eqb v w) i (last_claim h w) q).0)
           | inr e ↦
               let k : one (eqb v w) ≡ 0 = ap one (ne_eqb v w e) in
               (omega arith, λ i q. let y : count_by (is_stop_of w) h ≡ 0 = b i (some_of_none_if (eqb v w) i (last_claim h w) q).1 in omega arith)
@@ -159,7 +160,7 @@ stops_by_workers s (Stop v ∷ h) l =
     ∙ sym (sum_step (λ w. count_by (is_stop_of w) h) (λ w. count_by (is_stop_of w) (Stop v ∷ h)) s.workers v 1
     (claimer_is_there s h v (l.0).op l.1 (held_last s h v (l.0).op (l.0).holds).0)
     (λ w x. count_no (is_stop_of w) (Stop v) h (ne_eqb v w (λ e. x (sym e))))
-    (count_cons (is_stop_of v) (Stop v) h ∙ ap (λ b. one b + count_by (is_stop_of v) h) (eqb_refl v))))
+    (count_cons (is_stop_of v) (Stop v) h ∙ ap (λ b. one b + count_by (is_stop_of v) h) (eqb_itself v))))
 stops_by_workers s (Claim v j ∷ h) l = count_no is_stop (Claim v j) h refl ∙ (stops_by_workers s h l.1 ∙ sum_same (λ w. count_by (is_stop_of w) h) (λ w. count_by (is_stop_of w) (Claim v j ∷ h)) s.workers (λ w _. sym (count_no (is_stop_of w) (Claim v j) h refl)))
 stops_by_workers s (Charge v j c ∷ h) l = count_no is_stop (Charge v j c) h refl ∙ (stops_by_workers s h l.1 ∙ sum_same (λ w. count_by (is_stop_of w) h) (λ w. count_by (is_stop_of w) (Charge v j c ∷ h)) s.workers (λ w _. sym (count_no (is_stop_of w) (Charge v j c) h refl)))
 stops_by_workers s (Publish v j ∷ h) l = count_no is_stop (Publish v j) h refl ∙ (stops_by_workers s h l.1 ∙ sum_same (λ w. count_by (is_stop_of w) h) (λ w. count_by (is_stop_of w) (Publish v j ∷ h)) s.workers (λ w _. sym (count_no (is_stop_of w) (Publish v j) h refl)))
@@ -204,8 +205,8 @@ complete_lives s h j l c p =
       | inr r ↦ elim (cases_Bool (is_live s h j)) [
         | inr q ↦ q ∙ sym r
         | inl q ↦ elim (law.0 q) [
-          | inl x ↦ clash x r
-          | inr x ↦ clash (c x.op (input_is_there s.wires x.op x.place j x.reads)) (out_is_unfinished s h j x)
+          | inl x ↦ clash _ x r
+          | inr x ↦ clash _ (c x.op (input_is_there s.wires x.op x.place j x.reads)) (out_is_unfinished s h j x)
         ]
       ]
     ]

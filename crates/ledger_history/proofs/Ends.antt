@@ -7,7 +7,7 @@ use Rattle.ledger_history.specs.declared.event.Event.{Event}
 use Rattle.ledger_history.specs.declared.event.Event.TheVariants.{Publish, Release}
 use Rattle.ledger_history.specs.Histories.{Setup, is_published, is_released, is_finished, is_back, if_there, last_claim, held, if_unfinished}
 use Rattle.ledger_history.specs.Enabled.{AllFinishedBelow}
-use Rattle.ledger_history.proofs.Choices.{clash}
+use Rattle.list_facts.proofs.Tests.{clash}
 use Rattle.ledger_history.proofs.Orders.{published_stays}
 use Rattle.ledger_history.proofs.Returns.{released_other}
 
@@ -39,7 +39,7 @@ finished_stays s e h i q =
 pub unfinished_before : (s : Setup) (e : Event) (h : List Event) (i : ℕ) → is_finished s (e ∷ h) i ≡ false → is_finished s h i ≡ false
 unfinished_before s e h i q =
     elim (cases_Bool (is_finished s h i)) [
-      | inl p ↦ clash (finished_stays s e h i p) q
+      | inl p ↦ clash _ (finished_stays s e h i p) q
       | inr p ↦ p
     ]
 

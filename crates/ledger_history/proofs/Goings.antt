@@ -8,7 +8,8 @@ use Rattle.ledger_history.specs.declared.event.Event.TheVariants.{Claim, Charge,
 use Rattle.ledger_history.specs.Histories.{Setup, operations, is_claimed, is_charged, is_published, is_finished, is_stopped, releases, last_claim, held}
 use Rattle.ledger_history.specs.Enabled.{Legal, AllFinishedBelow, IsNext}
 use Rattle.ledger_history.specs.Steps.{has_claim, CanGoOn}
-use Rattle.ledger_history.proofs.Choices.{clash, eqb_refl, some_of_if, some_of_none_if}
+use Rattle.list_facts.proofs.Tests.{clash}
+use Rattle.ledger_history.proofs.Choices.{eqb_itself, some_of_if, some_of_none_if}
 use Rattle.ledger_history.proofs.Orders.{held_last, last_is_held, charged_is_claimed, published_is_charged}
 use Rattle.ledger_history.proofs.Releases.{finished_is_published, finished_by_count}
 use Rattle.ledger_history.proofs.Holders.{claimer_is_there}
@@ -27,10 +28,10 @@ last_has_claim (e ∷ h) w i q = last_has_claim h w i q
 
 -- unless the run is stopped, each claimed unfinished operation is the last claim of a worker
 pub unfinished_is_held : (s : Setup) (h : List Event) (i : ℕ) → Legal s h → is_stopped h ≡ false → is_claimed h i ≡ true → is_finished s h i ≡ false → (w : ℕ) × (last_claim h w ≡ Some i)
-unfinished_is_held s [] i l r c u = clash c refl
+unfinished_is_held s [] i l r c u = clash _ c refl
 unfinished_is_held s (Claim v j ∷ h) i l r c u =
     elim (or_cases (eqb j i) (is_claimed h i) c) [
-      | inl p ↦ (v, ap (λ b. cond b (Some j) (last_claim h v)) (eqb_refl v) ∙ ap Some (eqb-true j i p))
+      | inl p ↦ (v, ap (λ b. cond b (Some j) (last_claim h v)) (eqb_itself v) ∙ ap Some (eqb-true j i p))
       | inr p ↦ by_worker (unfinished_is_held s h i l.1 r p u)
     ]
   where
@@ -43,7 +44,7 @@ unfinished_is_held s (Claim v j ∷ h) i l r c u =
 unfinished_is_held s (Charge v j d ∷ h) i l r c u = unfinished_is_held s h i l.1 r c u
 unfinished_is_held s (Publish v j ∷ h) i l r c u = unfinished_is_held s h i l.1 r c (unfinished_before s (Publish v j) h i u)
 unfinished_is_held s (Release v j k ∷ h) i l r c u = unfinished_is_held s h i l.1 r c (unfinished_before s (Release v j k) h i u)
-unfinished_is_held s (Stop v ∷ h) i l r c u = clash refl r
+unfinished_is_held s (Stop v ∷ h) i l r c u = clash _ refl r
 
 -- the lowest unfinished operation is ready where it isn't claimed, and the next one
 pub lowest_is_next : (s : Setup) (h : List Event) (m : ℕ) → IsWiring s.wires → Legal s h → AllFinishedBelow s h m → m < operations s → is_claimed h m ≡ false → IsNext s h m
@@ -51,7 +52,7 @@ lowest_is_next s h m v l below there u =
     record {
       ready = record { there = there; unclaimed = u; inputs = λ k j e. finished_is_published s h j (below j (v.lower m k j e)) };
       lowest = λ j r. elim (cases_lt j m) [
-        | inl p ↦ clash (charged_is_claimed s h j l (published_is_charged s h j l (finished_is_published s h j (below j p)))) r.unclaimed
+        | inl p ↦ clash _ (charged_is_claimed s h j l (published_is_charged s h j l (finished_is_published s h j (below j p)))) r.unclaimed
         | inr p ↦ p
       ];
     }
@@ -74,7 +75,7 @@ idle_for_lowest s (Claim w j ∷ h) m v l r below there u =
     let next = lowest_is_next s h m v l.1 below there parts.1 in
     let a : j ≤ m = (l.0).next.lowest m next.ready in
     let b : m ≤ j = next.lowest j (l.0).next.ready in
-    clash (eq-eqb j m (omega arith)) parts.0
+    clash _ (eq-eqb j m (omega arith)) parts.0
 idle_for_lowest s (Charge w j c ∷ h) m v l r below there u = idle_for_lowest s h m v l.1 r below there u
 idle_for_lowest s (Publish w x ∷ h) m v l r below there u =
     elim (cases_lt x m) [
@@ -96,7 +97,7 @@ idle_for_lowest s (Release w x k ∷ h) m v l r below there u =
         | inr a ↦ inr a
       ]
     ]
-idle_for_lowest s (Stop w ∷ h) m v l r below there u = clash refl r
+idle_for_lowest s (Stop w ∷ h) m v l r below there u = clash _ refl r
 
 -- what the worker that holds the lowest unfinished operation may do
 holder_goes_on : (s : Setup) (h : List Event) (m w : ℕ) → IsWiring s.wires → Legal s h → is_stopped h ≡ false → AllFinishedBelow s h m → is_finished s h m ≡ false → last_claim h w ≡ Some m → CanGoOn s h
@@ -119,13 +120,13 @@ holder_goes_on s h m w v l r below u last =
     left p =
         elim (cases_lt (releases h m) (input_count s.wires m)) [
           | inl q ↦ q
-          | inr q ↦ clash (finished_by_count s h m v l ∙ and_from (is_published h m) _ p (le-leb (input_count s.wires m) (releases h m) q)) u
+          | inr q ↦ clash _ (finished_by_count s h m v l ∙ and_from (is_published h m) _ p (le-leb (input_count s.wires m) (releases h m) q)) u
         ]
 
 pub can_go_on : (s : Setup) (h : List Event) (i : ℕ) → IsWiring s.wires → 0 < s.workers → Legal s h → is_stopped h ≡ false → i < operations s → is_finished s h i ≡ false → CanGoOn s h
 can_go_on s h i v some l r there u =
     elim (search_unfinished s h (operations s)) [
-      | inr all ↦ clash (all i there) u
+      | inr all ↦ clash _ (all i there) u
       | inl (m, at, below, f) ↦ elim (cases_Bool (is_claimed h m)) [
         | inl c ↦ let w = unfinished_is_held s h m l r c f in holder_goes_on s h m w.0 v l r below f w.1
         | inr c ↦ claims m at below c (idle_for_lowest s h m v l r below at c)
@@ -137,7 +138,7 @@ can_go_on s h i v some l r there u =
       where
         by_claim : (o : Option ℕ) → last_claim h w ≡ o → held s h w ≡ None
         by_claim None e = idle_from_none s h w e
-        by_claim (Some j) e = clash (last_has_claim h w j e) (q w)
+        by_claim (Some j) e = clash _ (last_has_claim h w j e) (q w)
 
     claims : (m : ℕ) → m < operations s → AllFinishedBelow s h m → is_claimed h m ≡ false → SomeIdle s h → CanGoOn s h
     claims m at below c (inl (w, a, b, d)) = record { event = Claim w m; enabled = record { runs = r; worker = a; idle = d; next = lowest_is_next s h m v l below at c }; goes_on = refl; worker = inl b }

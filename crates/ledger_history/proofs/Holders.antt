@@ -6,7 +6,8 @@ use Rattle.ledger_history.specs.declared.event.Event.{Event}
 use Rattle.ledger_history.specs.declared.event.Event.TheVariants.{Claim, Stop}
 use Rattle.ledger_history.specs.Histories.{Setup, is_claimed, last_claim}
 use Rattle.ledger_history.specs.Enabled.{Legal}
-use Rattle.ledger_history.proofs.Choices.{clash, some_of_if, some_of_none_if}
+use Rattle.list_facts.proofs.Tests.{clash}
+use Rattle.ledger_history.proofs.Choices.{some_of_if, some_of_none_if}
 use Rattle.ledger_history.proofs.Orders.{last_is_claimed}
 
 -- no two workers' last claims are of one operation
@@ -16,10 +17,10 @@ one_holder s (Claim u j ∷ h) v w i l p q =
     elim (some_of_if (eqb u v) j i (last_claim h v) p) [
       | inl a ↦ elim (some_of_if (eqb u w) j i (last_claim h w) q) [
         | inl b ↦ sym (eqb-true u v a.0) ∙ eqb-true u w b.0
-        | inr b ↦ clash (last_is_claimed h w i b.1) (ap (is_claimed h) (sym a.1) ∙ (l.0).next.ready.unclaimed)
+        | inr b ↦ clash _ (last_is_claimed h w i b.1) (ap (is_claimed h) (sym a.1) ∙ (l.0).next.ready.unclaimed)
       ]
       | inr a ↦ elim (some_of_if (eqb u w) j i (last_claim h w) q) [
-        | inl b ↦ clash (last_is_claimed h v i a.1) (ap (is_claimed h) (sym b.1) ∙ (l.0).next.ready.unclaimed)
+        | inl b ↦ clash _ (last_is_claimed h v i a.1) (ap (is_claimed h) (sym b.1) ∙ (l.0).next.ready.unclaimed)
         | inr b ↦ one_holder s h v w i l.1 a.1 b.1
       ]
     ]

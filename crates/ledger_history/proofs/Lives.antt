@@ -9,7 +9,7 @@ use Rattle.ledger_history.specs.Histories.{Setup, operations, is_claimed, is_pub
 use Rattle.ledger_history.specs.Enabled.{Legal}
 use Rattle.ledger_history.specs.Totals.{sum_to}
 use Rattle.ledger_history.specs.Readers.{HasReader, IsReturnOf, LetsGo}
-use Rattle.ledger_history.proofs.Choices.{clash}
+use Rattle.list_facts.proofs.Tests.{clash}
 use Rattle.ledger_history.proofs.Orders.{held_is_claimed, claimed_is_there, claimed_has_inputs, charged_is_claimed, published_is_charged, published_stays}
 use Rattle.ledger_history.proofs.Releases.{released_below, released_is_published}
 use Rattle.ledger_history.proofs.Returns.{returns_fit, reader_lacks, lacks_reader, at_one, reads_at, readers_by_places}
@@ -51,14 +51,14 @@ live_has_reader s h j l p q =
       | inl r ↦ inl r
       | inr r ↦ elim (cases_lt (returns s h j) (reader_count s.wires j)) [
         | inl a ↦ inr (lacks_reader s h j l a)
-        | inr a ↦ let b = returns_fit s h j l in clash (let_go_from s h j p r (omega arith)) q
+        | inr a ↦ let b = returns_fit s h j l in clash _ (let_go_from s h j p r (omega arith)) q
       ]
     ]
 
 pub reported_stays : (s : Setup) (h : List Event) (j : ℕ) → is_reported s.wires j ≡ true → is_let_go s h j ≡ false
 reported_stays s h j r =
     elim (cases_Bool (is_let_go s h j)) [
-      | inl q ↦ clash r (let_go_parts s h j q).1
+      | inl q ↦ clash _ r (let_go_parts s h j q).1
       | inr q ↦ q
     ]
 
@@ -94,15 +94,15 @@ unpublished_has_reader s h j l u q =
     by_place : (i : ℕ) → (k : ℕ) × (input s.wires i k ≡ Some j) → HasReader s h j
     by_place i (k, e) =
         elim (cases_Bool (is_released h i k)) [
-          | inl x ↦ clash (claimed_has_inputs s h i k j l (released_is_claimed s h i k l x) e) u
+          | inl x ↦ clash _ (claimed_has_inputs s h i k j l (released_is_claimed s h i k l x) e) u
           | inr x ↦ record { op = i; place = k; reads = e; unreleased = x }
         ]
 
 -- a layer is let go at a return of it, and at no other event
 pub let_go_by_return : (s : Setup) (h : List Event) (e : Event) (j : ℕ) → IsWiring s.wires → Legal s (e ∷ h) → LetsGo s h e j → IsReturnOf s e j
-let_go_by_return s h (Claim w i) j v l g = clash g.after g.before
-let_go_by_return s h (Charge w i c) j v l g = clash g.after g.before
-let_go_by_return s h (Stop w) j v l g = clash g.after g.before
+let_go_by_return s h (Claim w i) j v l g = clash _ g.after g.before
+let_go_by_return s h (Charge w i c) j v l g = clash _ g.after g.before
+let_go_by_return s h (Stop w) j v l g = clash _ g.after g.before
 let_go_by_return s h (Publish w i) j v l g =
     elim (cases_Bool (eqb i j)) [
       | inl e ↦
@@ -111,17 +111,17 @@ let_go_by_return s h (Publish w i) j v l g =
           let unpublished : is_published h j ≡ false = subst (λ k. is_published h k ≡ false) same (l.0).unpublished in
           let there : j < operations s = subst (λ k. k < operations s) same (claimed_is_there s h i l.1 (held_is_claimed s h w i (l.0).holds)) in
           elim (v.used j there) [
-            | inl r ↦ clash r a.1
+            | inl r ↦ clash _ r a.1
             | inr r ↦ let b = reader_lacks s h j l.1 (unpublished_has_reader s h j l.1 unpublished r) in absurd (omega (arith, a.2))
           ]
-      | inr e ↦ clash (sym (ap (λ b. (b || is_published h j) && (not (is_reported s.wires j) && eqb (returns s h j) (reader_count s.wires j))) e) ∙ g.after) g.before
+      | inr e ↦ clash _ (sym (ap (λ b. (b || is_published h j) && (not (is_reported s.wires j) && eqb (returns s h j) (reader_count s.wires j))) e) ∙ g.after) g.before
     ]
 let_go_by_return s h (Release w i k) j v l g =
     elim (cases_lt 0 (one_if_at (input s.wires i k) j)) [
       | inl p ↦ at_one (input s.wires i k) j p
       | inr p ↦
           let e : one_if_at (input s.wires i k) j + returns s h j ≡ returns s h j = omega arith in
-          clash (sym (ap (λ n. is_published h j && (not (is_reported s.wires j) && eqb n (reader_count s.wires j))) e) ∙ g.after) g.before
+          clash _ (sym (ap (λ n. is_published h j && (not (is_reported s.wires j) && eqb n (reader_count s.wires j))) e) ∙ g.after) g.before
     ]
 
 pub let_go_stays : (s : Setup) (h : List Event) (e : Event) (j : ℕ) → Legal s (e ∷ h) → is_let_go s h j ≡ true → is_let_go s (e ∷ h) j ≡ true
@@ -149,7 +149,7 @@ last_return_lets_go s h (Release w i k) j l r n u =
       before = reader_keeps s h j l.1 (record { op = i; place = k; reads = r; unreleased = out });
       after = elim (cases_Bool (is_let_go s (Release w i k ∷ h) j)) [
         | inl q ↦ q
-        | inr q ↦ elim (live_has_reader s (Release w i k ∷ h) j l published q) [ inl x ↦ clash x n | inr x ↦ absurd (u x) ]
+        | inr q ↦ elim (live_has_reader s (Release w i k ∷ h) j l published q) [ inl x ↦ clash _ x n | inr x ↦ absurd (u x) ]
       ];
     }
 last_return_lets_go s h (Claim w i) j l r n u = absurd r

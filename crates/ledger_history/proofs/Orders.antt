@@ -7,7 +7,8 @@ use Rattle.ledger_history.specs.declared.event.Event.{Event}
 use Rattle.ledger_history.specs.declared.event.Event.TheVariants.{Claim, Charge, Publish, Stop}
 use Rattle.ledger_history.specs.Histories.{Setup, operations, is_claimed, is_charged, is_published, is_finished, last_claim, held, if_unfinished}
 use Rattle.ledger_history.specs.Enabled.{Legal}
-use Rattle.ledger_history.proofs.Choices.{clash, eqb_refl, some_of_if, some_of_none_if}
+use Rattle.list_facts.proofs.Tests.{clash}
+use Rattle.ledger_history.proofs.Choices.{eqb_itself, some_of_if, some_of_none_if}
 
 -- what is claimed, charged or published stays so
 pub claimed_stays : (e : Event) (h : List Event) (i : ℕ) → is_claimed h i ≡ true → is_claimed (e ∷ h) i ≡ true
@@ -27,7 +28,7 @@ pub last_is_claimed : (h : List Event) (w i : ℕ) → last_claim h w ≡ Some i
 last_is_claimed [] w i q = absurd cc
 last_is_claimed (Claim v j ∷ h) w i q =
     elim (some_of_if (eqb v w) j i (last_claim h w) q) [
-      | inl p ↦ or_left (eqb j i) _ (subst (λ k. eqb j k ≡ true) p.1 (eqb_refl j))
+      | inl p ↦ or_left (eqb j i) _ (subst (λ k. eqb j k ≡ true) p.1 (eqb_itself j))
       | inr p ↦ or_right (eqb j i) _ (last_is_claimed h w i p.1)
     ]
 last_is_claimed (Stop v ∷ h) w i q = last_is_claimed h w i (some_of_none_if (eqb v w) i (last_claim h w) q).1
@@ -53,7 +54,7 @@ last_is_held s h w i p q = ap (if_unfinished s h) p ∙ ap (λ b. cond b None (S
 
 -- charged after claimed, published after charged
 pub charged_is_claimed : (s : Setup) (h : List Event) (i : ℕ) → Legal s h → is_charged h i ≡ true → is_claimed h i ≡ true
-charged_is_claimed s [] i l q = clash q refl
+charged_is_claimed s [] i l q = clash _ q refl
 charged_is_claimed s (Claim w j ∷ h) i l q = or_right (eqb j i) _ (charged_is_claimed s h i l.1 q)
 charged_is_claimed s (Charge w j c ∷ h) i l q =
     elim (or_cases (eqb j i) (is_charged h i) q) [
@@ -63,7 +64,7 @@ charged_is_claimed s (Charge w j c ∷ h) i l q =
 charged_is_claimed s (e ∷ h) i l q = charged_is_claimed s h i l.1 q
 
 pub published_is_charged : (s : Setup) (h : List Event) (i : ℕ) → Legal s h → is_published h i ≡ true → is_charged h i ≡ true
-published_is_charged s [] i l q = clash q refl
+published_is_charged s [] i l q = clash _ q refl
 published_is_charged s (Charge w j c ∷ h) i l q = or_right (eqb j i) _ (published_is_charged s h i l.1 q)
 published_is_charged s (Publish w j ∷ h) i l q =
     elim (or_cases (eqb j i) (is_published h i) q) [
@@ -74,7 +75,7 @@ published_is_charged s (e ∷ h) i l q = published_is_charged s h i l.1 q
 
 -- there are no claims of other operations
 pub claimed_is_there : (s : Setup) (h : List Event) (i : ℕ) → Legal s h → is_claimed h i ≡ true → i < operations s
-claimed_is_there s [] i l q = clash q refl
+claimed_is_there s [] i l q = clash _ q refl
 claimed_is_there s (Claim w j ∷ h) i l q =
     elim (or_cases (eqb j i) (is_claimed h i) q) [
       | inl p ↦ subst (λ k. k < operations s) (eqb-true j i p) (l.0).next.ready.there
@@ -84,7 +85,7 @@ claimed_is_there s (e ∷ h) i l q = claimed_is_there s h i l.1 q
 
 -- the inputs of what is claimed are published
 pub claimed_has_inputs : (s : Setup) (h : List Event) (i k j : ℕ) → Legal s h → is_claimed h i ≡ true → input s.wires i k ≡ Some j → is_published h j ≡ true
-claimed_has_inputs s [] i k j l q e = clash q refl
+claimed_has_inputs s [] i k j l q e = clash _ q refl
 claimed_has_inputs s (Claim w m ∷ h) i k j l q e =
     elim (or_cases (eqb m i) (is_claimed h i) q) [
       | inl p ↦ (l.0).next.ready.inputs k j (ap (λ n. input s.wires n k) (eqb-true m i p) ∙ e)

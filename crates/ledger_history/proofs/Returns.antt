@@ -13,7 +13,7 @@ use Rattle.ledger_history.specs.Histories.{Setup, operations, is_released, relea
 use Rattle.ledger_history.specs.Enabled.{Legal}
 use Rattle.ledger_history.specs.Totals.{sum_to}
 use Rattle.ledger_history.specs.Readers.{HasReader}
-use Rattle.ledger_history.proofs.Choices.{eqb_refl}
+use Rattle.ledger_history.proofs.Choices.{eqb_itself}
 use Rattle.ledger_history.proofs.Orders.{held_is_claimed, claimed_is_there}
 use Rattle.ledger_history.proofs.Releases.{released_below}
 use Rattle.ledger_history.proofs.Sums.{sum_step, sum_le, sum_less, smaller_term, sum_same, sum_by_places, sum_zero}
@@ -40,7 +40,7 @@ no_third (w ∷ ws) zero k m e = cc
 no_third (w ∷ ws) (suc i) k m e = no_third ws i k m e
 
 pub one_at : (o : Option ℕ) (j : ℕ) → o ≡ Some j → one_if_at o j ≡ 1
-one_at o j e = ap (λ p. one_if_at p j) e ∙ ap (λ b. cond b 1 0) (eqb_refl j)
+one_at o j e = ap (λ p. one_if_at p j) e ∙ ap (λ b. cond b 1 0) (eqb_itself j)
 
 pub at_one : (o : Option ℕ) (j : ℕ) → 0 < one_if_at o j → o ≡ Some j
 at_one None j h = absurd (omega arith)
@@ -63,7 +63,7 @@ pub released_other : (h : List Event) (w m k i p : ℕ) → (i ≡ m → ⊥) �
 released_other h w m k i p n = ap (λ b. (b && eqb k p) || is_released h i p) (ne_eqb m i (λ e. n (sym e)))
 
 released_same : (h : List Event) (w m k p : ℕ) → is_released (Release w m k ∷ h) m p ≡ (eqb k p || is_released h m p)
-released_same h w m k p = ap (λ b. (b && eqb k p) || is_released h m p) (eqb_refl m)
+released_same h w m k p = ap (λ b. (b && eqb k p) || is_released h m p) (eqb_itself m)
 
 back_step : (s : Setup) (h : List Event) (w m k j : ℕ) → Legal s (Release w m k ∷ h)
     → back_at s (Release w m k ∷ h) j m ≡ one_if_at (input s.wires m k) j + back_at s h j m

@@ -7,7 +7,8 @@ use Rattle.ledger_history.specs.declared.event.Event.{Event}
 use Rattle.ledger_history.specs.declared.event.Event.TheVariants.{Claim, Charge, Publish, Release, Stop}
 use Rattle.ledger_history.specs.Histories.{Setup, is_charged}
 use Rattle.ledger_history.specs.Enabled.{Enabled, Legal, IsReady, IsNext}
-use Rattle.ledger_history.proofs.Choices.{clash, eqb_refl}
+use Rattle.list_facts.proofs.Tests.{clash}
+use Rattle.ledger_history.proofs.Choices.{eqb_itself}
 use Rattle.ledger_table.specs.Ledgers.{Ledger, setup_with, charged_cost, IsAllowed}
 use Rattle.ledger_table.specs.Working.Costs.{HasCost, HaveCosts}
 use Rattle.ledger_table.specs.Marks.{run_of}
@@ -43,20 +44,20 @@ costs_but : (f : ℕ → ℕ) (h : List Event) (i c : ℕ) → HaveCosts f h →
 costs_but f [] i c p u = tt
 costs_but f (Charge w j d ∷ h) i c p u =
     elim (cases_eq i j) [
-      | inl e ↦ clash (or_left (eqb j i) (is_charged h i) (ap (eqb j) e ∙ eqb_refl j)) u
+      | inl e ↦ clash _ (or_left (eqb j i) (is_charged h i) (ap (eqb j) e ∙ eqb_itself j)) u
       | inr e ↦ (p.0 ∙ sym (ap (λ b. cond b c (f j)) (ne_eqb i j e)), costs_but f h i c p.1 (uncharged_before u))
     ]
   where
     uncharged_before : (eqb j i || is_charged h i) ≡ false → is_charged h i ≡ false
     uncharged_before u =
         elim (cases_Bool (is_charged h i)) [
-          | inl q ↦ clash (or_right (eqb j i) (is_charged h i) q) u
+          | inl q ↦ clash _ (or_right (eqb j i) (is_charged h i) q) u
           | inr q ↦ q
         ]
 costs_but f (e ∷ h) i c p u = (tt, costs_but f h i c p.1 u)
 
 own_cost : (h : List Event) (e : Event) → HasCost (charged_cost (e ∷ h)) e
-own_cost h (Charge w i c) = sym (ap (λ b. cond b c (charged_cost h i)) (eqb_refl i))
+own_cost h (Charge w i c) = sym (ap (λ b. cond b c (charged_cost h i)) (eqb_itself i))
 own_cost h e = tt
 
 own_costs : (s : Setup) (h : List Event) (e : Event) → HaveCosts (charged_cost h) h → Enabled s h e → HaveCosts (charged_cost (e ∷ h)) h

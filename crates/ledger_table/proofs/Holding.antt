@@ -7,20 +7,22 @@ use Rattle.ledger_history.specs.declared.event.Event.{Event}
 use Rattle.ledger_history.specs.declared.event.Event.TheVariants.{Claim, Stop}
 use Rattle.ledger_history.specs.Histories.{Setup, is_claimed, is_finished, last_claim, held, if_unfinished}
 use Rattle.ledger_history.specs.Enabled.{Legal}
-use Rattle.ledger_history.proofs.Choices.{clash, eqb_refl}
+use Rattle.list_facts.proofs.Tests.{clash}
+use Rattle.ledger_history.proofs.Choices.{eqb_itself}
 use Rattle.ledger_history.proofs.Orders.{charged_is_claimed, published_is_charged, held_last, last_is_held}
 use Rattle.ledger_history.proofs.Releases.{finished_is_published}
 use Rattle.ledger_history.proofs.Holders.{one_holder}
 use Rattle.ledger_history.proofs.Ends.{idle_from_none, idle_from_finished}
 use Rattle.ledger_table.specs.Marks.{wired, run_of}
 use Rattle.ledger_table.specs.Tables.{HeldOf}
-use Rattle.ledger_table.proofs.Slots.{slot_is, slot_other}
+use Rattle.list_facts.proofs.Slots.{unwritten}
+use Rattle.ledger_table.proofs.Slots.{slot_is}
 
 -- an operation that isn't claimed isn't finished
 pub unclaimed_unfinished : (s : Setup) (h : List Event) (i : ℕ) → Legal s h → is_claimed h i ≡ false → is_finished s h i ≡ false
 unclaimed_unfinished s h i l u =
     elim (cases_Bool (is_finished s h i)) [
-      | inl p ↦ clash (charged_is_claimed s h i l (published_is_charged s h i l (finished_is_published s h i p))) u
+      | inl p ↦ clash _ (charged_is_claimed s h i l (published_is_charged s h i l (finished_is_published s h i p))) u
       | inr p ↦ p
     ]
 
@@ -30,24 +32,24 @@ pub held_written : (ws : List Wire) (h : List Event) (e : Event) (w : ℕ) (v : 
 held_written ws h e w v kept p q r = λ u o g.
     elim (cases_eq u w) [
       | inl s ↦ sym (slot_is kept w v o (subst (λ k. slice_get (set kept w v) k ≡ Some o) s g)) ∙ (q ∙ ap (held (wired ws) (e ∷ h)) (sym s))
-      | inr s ↦ p u o (sym (slot_other kept w u v s) ∙ g) ∙ sym (r u s)
+      | inr s ↦ p u o (sym (unwritten kept w u v s) ∙ g) ∙ sym (r u s)
     ]
 
 pub held_after_claim : (ws : List Wire) (budget workers : ℕ) (h : List Event) (w i : ℕ) (kept : List (Option ℕ)) → Legal (run_of ws budget workers h) h → is_claimed h i ≡ false
     → HeldOf ws h kept → HeldOf ws (Claim w i ∷ h) (set kept w (Some i))
 held_after_claim ws budget workers h w i kept l u p =
     held_written ws h (Claim w i) w (Some i) kept p
-    (sym (last_is_held (wired ws) (Claim w i ∷ h) w i (ap (λ b. cond b (Some i) (last_claim h w)) (eqb_refl w)) (unclaimed_unfinished (run_of ws budget workers h) h i l u)))
+    (sym (last_is_held (wired ws) (Claim w i ∷ h) w i (ap (λ b. cond b (Some i) (last_claim h w)) (eqb_itself w)) (unclaimed_unfinished (run_of ws budget workers h) h i l u)))
     (λ v n. ap (λ b. if_unfinished (wired ws) h (cond b (Some i) (last_claim h v))) (ne_eqb w v (λ e. n (sym e))))
 
 pub held_after_stop : (ws : List Wire) (h : List Event) (w : ℕ) (kept : List (Option ℕ)) → HeldOf ws h kept → HeldOf ws (Stop w ∷ h) (set kept w None)
 held_after_stop ws h w kept p =
     held_written ws h (Stop w) w None kept p
-    (sym (idle_from_none (wired ws) (Stop w ∷ h) w (ap (λ b. cond b None (last_claim h w)) (eqb_refl w))))
+    (sym (idle_from_none (wired ws) (Stop w ∷ h) w (ap (λ b. cond b None (last_claim h w)) (eqb_itself w))))
     (λ v n. ap (λ b. if_unfinished (wired ws) h (cond b None (last_claim h v))) (ne_eqb w v (λ e. n (sym e))))
 
 -- what another worker holds stays, where one operation alone may have ended
-held_kept : (s : Setup) (h : List Event) (e : Event) (i : ℕ) (o : Option ℕ) → ((m : ℕ) → (m ≡ i → ⊥) → is_finished s (e ∷ h) m ≡ is_finished s h m) → (o ≡ Some i → ⊥)
+pub held_kept : (s : Setup) (h : List Event) (e : Event) (i : ℕ) (o : Option ℕ) → ((m : ℕ) → (m ≡ i → ⊥) → is_finished s (e ∷ h) m ≡ is_finished s h m) → (o ≡ Some i → ⊥)
     → if_unfinished s (e ∷ h) o ≡ if_unfinished s h o
 held_kept s h e i None p n = refl
 held_kept s h e i (Some m) p n = ap (λ b. cond b None (Some m)) (p m (λ r. n (ap (λ k. Some k) r)))

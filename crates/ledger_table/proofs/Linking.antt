@@ -6,7 +6,8 @@ use Rattle.std.proofs.lemmas.Option.{same_Some, slice_get-get_or}
 use Rattle.std.specs.Prelude.{slice_get}
 use Rattle.layer_model.specs.declared.wiring.Wire.{Wire}
 use Rattle.ledger_table.specs.Working.Places.{read_at, IsLastBelow, AreLinked}
-use Rattle.ledger_table.proofs.Slots.{slot_other, slot_is}
+use Rattle.list_facts.proofs.Slots.{unwritten}
+use Rattle.ledger_table.proofs.Slots.{slot_is}
 
 -- a place that reads another operation changes nothing
 pub last_stays : (ws : List Wire) (j bound : ℕ) (o : Option ℕ) → IsLastBelow ws j bound o → (read_at ws bound ≡ Some j → ⊥) → IsLastBelow ws j (bound + 1) o
@@ -23,11 +24,11 @@ linked_some ws last earlier place op l h g r =
       earliers = length-set earlier place (get_or last op None) ∙ l.earliers;
       last_reader = λ j o e. elim (cases_eq j op) [
         | inl s ↦ subst (λ k. IsLastBelow ws k (place + 1) o) (sym s) (at_op o (slot_is last op (Some place) o (subst (λ k. slice_get (set last op (Some place)) k ≡ Some o) s e)))
-        | inr s ↦ last_stays ws j place o (l.last_reader j o (sym (slot_other last op j (Some place) s) ∙ e)) (λ q. s (sym (same_Some op j (sym r ∙ q))))
+        | inr s ↦ last_stays ws j place o (l.last_reader j o (sym (unwritten last op j (Some place) s) ∙ e)) (λ q. s (sym (same_Some op j (sym r ∙ q))))
       ];
       earlier_reader = λ p j o b q e. elim (cases_eq p place) [
         | inl s ↦ at_place p j o s (subst (λ k. read_at ws k ≡ Some j) s q) (subst (λ k. slice_get (set earlier place (get_or last op None)) k ≡ Some o) s e)
-        | inr s ↦ l.earlier_reader p j o (omega arith) q (sym (slot_other earlier place p (get_or last op None) s) ∙ e)
+        | inr s ↦ l.earlier_reader p j o (omega arith) q (sym (unwritten earlier place p (get_or last op None) s) ∙ e)
       ];
     }
   where

@@ -10,7 +10,7 @@ use Rattle.ledger_history.specs.declared.event.Event.{Event}
 use Rattle.ledger_history.specs.declared.event.Event.TheVariants.{Publish}
 use Rattle.ledger_history.specs.Histories.{is_claimed, is_published}
 use Rattle.ledger_history.specs.Enabled.{Legal}
-use Rattle.ledger_history.proofs.Choices.{clash}
+use Rattle.list_facts.proofs.Tests.{clash}
 use Rattle.ledger_history.proofs.Orders.{claimed_has_inputs}
 use Rattle.ledger_history.proofs.Returns.{input_is_there}
 use Rattle.ledger_table.specs.declared.mark.Mark.{Mark}
@@ -18,7 +18,7 @@ use Rattle.ledger_table.specs.Marks.{MarksOf, run_of}
 use Rattle.ledger_table.specs.Working.Places.{read_at, IsLastBelow, IsReaderOf, bound_of}
 use Rattle.ledger_table.specs.Flags.{is_in, has_inputs, is_open, FlagsOf}
 use Rattle.ledger_table.specs.Working.Openings.{OpensFrom, Opening, published, walk}
-use Rattle.ledger_table.proofs.Slots.{slot_written, slot_other}
+use Rattle.list_facts.proofs.Slots.{written, unwritten}
 
 -- an input that is in stays so
 in_stays : (h : List Event) (w j : ℕ) (o : Option ℕ) → is_in h o ≡ true → is_in (Publish w j ∷ h) o ≡ true
@@ -33,7 +33,7 @@ inputs_stay ws h w j i e =
 inputs_lack : (ws : List Wire) (h : List Event) (w j i : ℕ) → has_inputs ws (Publish w j ∷ h) i ≡ false → has_inputs ws h i ≡ false
 inputs_lack ws h w j i e =
     elim (cases_Bool (has_inputs ws h i)) [
-      | inl p ↦ clash (inputs_stay ws h w j i p) e
+      | inl p ↦ clash _ (inputs_stay ws h w j i p) e
       | inr p ↦ p
     ]
 
@@ -64,7 +64,7 @@ at_second ws i j e =
 reader_unclaimed : (ws : List Wire) (budget workers w j q : ℕ) (h : List Event) → Legal (run_of ws budget workers (Publish w j ∷ h)) (Publish w j ∷ h) → read_at ws q ≡ Some j → is_claimed h (q / 2) ≡ false
 reader_unclaimed ws budget workers w j q h l r =
     elim (cases_Bool (is_claimed h (q / 2))) [
-      | inl p ↦ clash (claimed_has_inputs (run_of ws budget workers (Publish w j ∷ h)) h (q / 2) (q % 2) j l.1 p r) (l.0).unpublished
+      | inl p ↦ clash _ (claimed_has_inputs (run_of ws budget workers (Publish w j ∷ h)) h (q / 2) (q % 2) j l.1 p r) (l.0).unpublished
       | inr p ↦ p
     ]
 
@@ -105,10 +105,10 @@ opens_next ws budget workers w j q h o flags l b r k f =
       all = length-set flags (q / 2) true ∙ f.all;
       each = λ i a. elim (cases_eq i (q / 2)) [
         | inl s ↦ inl (subst (λ z. slice_get (set flags (q / 2) true) z ≡ Some (is_open ws (Publish w j ∷ h) z)) (sym s)
-            (slot_written flags (q / 2) true (let y = f.all in omega arith) ∙ ap (λ z. Some z) (sym (open_with ws (Publish w j ∷ h) (q / 2) true unclaimed t))))
+            (written flags (q / 2) true (let y = f.all in omega arith) ∙ ap (λ z. Some z) (sym (open_with ws (Publish w j ∷ h) (q / 2) true unclaimed t))))
         | inr s ↦ elim (other i s (f.each i a)) [
-          | inl e ↦ inl (slot_other flags (q / 2) i true s ∙ e)
-          | inr (e, g) ↦ inr (slot_other flags (q / 2) i true s ∙ e, g)
+          | inl e ↦ inl (unwritten flags (q / 2) i true s ∙ e)
+          | inr (e, g) ↦ inr (unwritten flags (q / 2) i true s ∙ e, g)
         ]
       ];
     }

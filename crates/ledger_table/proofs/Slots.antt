@@ -1,27 +1,16 @@
 -- What stands in a list where one element is written.
-use Rattle.std.proofs.Common.{◌≡◌, ℕ, ◌-◌, ◌<◌, List, length, set, take, drop, replicate, reverse, ◌++◌, Some, inl, inr, sym, ◌∙◌, ap, arith}
-use Rattle.std.proofs.lemmas.Bool.{cases_lt}
-use Rattle.std.proofs.lemmas.List.{length-set, get_or-set_same, get_or-set_other, take-append-drop, reverse-append, length-reverse, length-drop, length-replicate, get_or-replicate}
-use Rattle.std.proofs.lemmas.Option.{same_Some, slice_get-get_or, slice_get_past, slice_get_within, get_or_from_slice_get}
+use Rattle.std.proofs.Common.{◌≡◌, ℕ, ◌-◌, List, length, set, take, drop, replicate, reverse, ◌++◌, Some, sym, ◌∙◌, ap, arith}
+use Rattle.std.proofs.lemmas.List.{length-set, take-append-drop, reverse-append, length-reverse, length-drop, length-replicate, get_or-replicate}
+use Rattle.std.proofs.lemmas.Option.{same_Some, slice_get_within, get_or_from_slice_get}
 use Rattle.std.proofs.Math.Seq.{take-append_seam}
 use Rattle.std.specs.Prelude.{slice_get}
-
-pub slot_written : {X : Type 0} (xs : List X) (i : ℕ) (y : X) → i < length xs → slice_get (set xs i y) i ≡ Some y
-slot_written xs i y h =
-    slice_get-get_or (set xs i y) i y (omega (arith, length-set xs i y)) ∙ ap (λ z. Some z) (get_or-set_same xs i y y h)
-
-pub slot_other : {X : Type 0} (xs : List X) (i j : ℕ) (y : X) → (j ≡ i → ⊥) → slice_get (set xs i y) j ≡ slice_get xs j
-slot_other xs i j y n =
-    elim (cases_lt j (length xs)) [
-      | inl h ↦ slice_get-get_or (set xs i y) j y (omega (arith, length-set xs i y)) ∙ (ap (λ z. Some z) (get_or-set_other xs i j y y n) ∙ sym (slice_get-get_or xs j y h))
-      | inr h ↦ slice_get_past (set xs i y) j (omega (arith, length-set xs i y)) ∙ sym (slice_get_past xs j h)
-    ]
+use Rattle.list_facts.proofs.Slots.{written}
 
 -- what was written is read
 pub slot_is : {X : Type 0} (xs : List X) (i : ℕ) (y x : X) → slice_get (set xs i y) i ≡ Some x → y ≡ x
 slot_is xs i y x e =
     let h = slice_get_within (set xs i y) i x e in
-    same_Some y x (sym (slot_written xs i y (omega (arith, length-set xs i y))) ∙ e)
+    same_Some y x (sym (written xs i y (omega (arith, length-set xs i y))) ∙ e)
 
 -- the end of a list, turned round
 pub reversed_end : {X : Type 0} (xs : List X) (n : ℕ) → take (length xs - n) (reverse xs) ≡ reverse (drop n xs)

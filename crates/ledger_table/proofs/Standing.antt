@@ -9,7 +9,7 @@ use Rattle.ledger_history.specs.declared.event.Event.{Event}
 use Rattle.ledger_history.specs.declared.event.Event.TheVariants.{Claim, Charge, Publish, Release, Stop}
 use Rattle.ledger_history.specs.Histories.{is_claimed, is_finished, is_let_go, returns, total}
 use Rattle.ledger_history.specs.Enabled.{Legal, AllFinishedBelow}
-use Rattle.ledger_history.proofs.Choices.{eqb_refl}
+use Rattle.ledger_history.proofs.Choices.{eqb_itself}
 use Rattle.ledger_history.proofs.Ends.{publish_ends_its_own, release_ends_its_own, finished_stays}
 use Rattle.ledger_history.proofs.Charges.{total_after_charge, total_without_charge}
 use Rattle.ledger_history.proofs.Returns.{reader_lacks}
@@ -22,7 +22,7 @@ use Rattle.ledger_table.specs.Tables.{Parts, Stands}
 use Rattle.ledger_table.proofs.Costs.{legal_grows}
 use Rattle.ledger_table.proofs.Totals.{events_fit, let_go_same, total_after_release, release_has_reader}
 use Rattle.ledger_table.proofs.Holding.{held_after_claim, held_after_stop, held_after_end}
-use Rattle.ledger_table.proofs.Slots.{slot_written, slot_other}
+use Rattle.list_facts.proofs.Slots.{written, unwritten}
 
 abbrev pub ledger_by : List Wire → ℕ → List (Option ℕ) → List Event → Ledger
 ledger_by ws budget kept h = record { wires = ws; budget = budget; workers = length kept; events = h }
@@ -66,8 +66,8 @@ flags_after_claim ws h w i flags b f =
       all = length-set flags i false ∙ f.all;
       each = λ j c. elim (cases_eq j i) [
         | inl s ↦ subst (λ k. slice_get (set flags i false) k ≡ Some (is_open ws (Claim w i ∷ h) k)) (sym s)
-            (slot_written flags i false (omega (arith, f.all)) ∙ ap (λ q. Some (not (q || is_claimed h i) && has_inputs ws h i)) (sym (eqb_refl i)))
-        | inr s ↦ slot_other flags i j false s ∙ (f.each j c ∙ ap (λ q. Some (not (q || is_claimed h j) && has_inputs ws h j)) (sym (ne_eqb i j (λ e. s (sym e)))))
+            (written flags i false (omega (arith, f.all)) ∙ ap (λ q. Some (not (q || is_claimed h i) && has_inputs ws h i)) (sym (eqb_itself i)))
+        | inr s ↦ unwritten flags i j false s ∙ (f.each j c ∙ ap (λ q. Some (not (q || is_claimed h j) && has_inputs ws h j)) (sym (ne_eqb i j (λ e. s (sym e)))))
       ];
     }
 

@@ -10,7 +10,7 @@ use Rattle.number_set.specs.Members.{IsLowest as IsLowestMember, IsEmpty}
 use Rattle.ledger_history.specs.declared.event.Event.{Event}
 use Rattle.ledger_history.specs.Histories.{Setup, operations, is_claimed, is_charged, is_published, is_finished, is_let_go, last_claim, releases, held, total, IsComplete}
 use Rattle.ledger_history.specs.Enabled.{Legal, AllFinishedBelow, IsReady, IsNext, InputIsPublished}
-use Rattle.ledger_history.proofs.Choices.{clash}
+use Rattle.list_facts.proofs.Tests.{clash}
 use Rattle.ledger_history.proofs.Orders.{charged_is_claimed, published_is_charged, claimed_is_there, held_last, last_is_claimed}
 use Rattle.ledger_history.proofs.Releases.{released_is_published}
 use Rattle.ledger_history.proofs.Returns.{no_third}
@@ -33,7 +33,7 @@ absent_charged s h i l b =
 pub absent_published : (s : Setup) (h : List Event) (i : ℕ) → Legal s h → operations s ≤ i → is_published h i ≡ false
 absent_published s h i l b =
     elim (cases_Bool (is_published h i)) [
-      | inl p ↦ clash (published_is_charged s h i l p) (absent_charged s h i l b)
+      | inl p ↦ clash _ (published_is_charged s h i l p) (absent_charged s h i l b)
       | inr p ↦ p
     ]
 
@@ -48,7 +48,7 @@ absent_releases s h i l b = by_count (releases h i) (released_is_published s h i
   where
     by_count : (n : ℕ) → (0 < n → is_published h i ≡ true) → n ≡ 0
     by_count zero p = refl
-    by_count (suc n) p = absurd (clash (p (omega arith)) (absent_published s h i l b))
+    by_count (suc n) p = absurd (clash _ (p (omega arith)) (absent_published s h i l b))
 
 pub absent_holds : (s : Setup) (h : List Event) (w : ℕ) → Legal s h → s.workers ≤ w → held s h w ≡ None
 absent_holds s h w l b = by_claim (last_claim h w) refl
@@ -68,7 +68,7 @@ finished_to_lowest ws h m i l b = λ j c. l.below j (omega arith)
 pub lowest_from_finished : (ws : List Wire) (h : List Event) (m i : ℕ) → IsLowest ws h m → AllFinishedBelow (wired ws) h i → i ≤ m
 lowest_from_finished ws h m i l a =
     elim (cases_lt m i) [
-      | inl b ↦ clash (a m b) l.unfinished
+      | inl b ↦ clash _ (a m b) l.unfinished
       | inr b ↦ b
     ]
 
@@ -90,7 +90,7 @@ pub complete_by_lowest : (ws : List Wire) (h : List Event) (m : ℕ) → IsLowes
 complete_by_lowest ws h m l = (
   λ e. λ i b. l.below i (omega arith),
   λ c. let t = l.there in elim (cases_lt m (length ws)) [
-    | inl b ↦ clash (c m b) l.unfinished
+    | inl b ↦ clash _ (c m b) l.unfinished
     | inr b ↦ omega arith
   ],
 )
@@ -131,14 +131,14 @@ next_by_flags s h flags n f l =
     record {
       ready = ready_from_open s h n b (same_Some _ _ (sym (f.each n b) ∙ l.member));
       lowest = λ j r. elim (cases_lt j n) [
-        | inl c ↦ clash (open_from_ready s h j r) (same_Some _ _ (sym (f.each j r.there) ∙ l.lowest j c))
+        | inl c ↦ clash _ (open_from_ready s h j r) (same_Some _ _ (sym (f.each j r.there) ∙ l.lowest j c))
         | inr c ↦ c
       ];
     }
 
 pub none_by_flags : (s : Setup) (h : List Event) (flags : List Bool) → FlagsOf s.wires h flags → IsEmpty flags → (i : ℕ) → IsReady s h i → ⊥
 none_by_flags s h flags f e i r =
-    clash (open_from_ready s h i r) (same_Some _ _ (sym (f.each i r.there) ∙ e i (let a = f.all in let b = r.there in omega arith)))
+    clash _ (open_from_ready s h i r) (same_Some _ _ (sym (f.each i r.there) ∙ e i (let a = f.all in let b = r.there in omega arith)))
 
 -- ---- what a worker holds is there
 

@@ -1,7 +1,7 @@
 -- Membership by cases on the list, beside `Contains`, which goes by place.
-use Rattle.std.proofs.Common.{◌≡◌, ℕ, zero, suc, ◌<◌, ◌⊎◌, Bool, true, false, cond, inl, inr, List, [], ◌∷◌, ◌++◌, length, take, drop, slice_index_or, refl, sym, ap, subst, ◌∙◌, arith}
+use Rattle.std.proofs.Common.{◌≡◌, ℕ, zero, suc, ◌<◌, ◌⊎◌, Bool, true, false, ◌||◌, cond, inl, inr, List, [], ◌∷◌, ◌++◌, length, take, drop, slice_index_or, refl, sym, ap, subst, ◌∙◌, arith}
 use Rattle.std.proofs.lemmas.List.Sorted.{IsPermutation-sym, Contains-permutation}
-use Rattle.std.specs.List.{Contains, AllByRecursion, filter}
+use Rattle.std.specs.List.{Contains, AllByRecursion, filter, list_any}
 use Rattle.std.specs.List.Sorted.{IsPermutation}
 use Rattle.list_facts.proofs.Tests.{clash}
 
@@ -108,3 +108,8 @@ module _ {X : Type 0} where
 
   pub all_permuted : (P : X → Type 0) (xs ys : List X) → IsPermutation xs ys → AllByRecursion P xs → AllByRecursion P ys
   all_permuted P xs ys p a = all_from_has P ys (λ x h. has_holds P xs x a (has_permuted ys xs x (IsPermutation-sym xs ys p) h))
+
+  -- tests that agree on each item find one in the same lists
+  pub any_agree : (test other : X → Bool) → ((x : X) → test x ≡ other x) → (xs : List X) → list_any test xs ≡ list_any other xs
+  any_agree test other same [] = refl
+  any_agree test other same (x ∷ xs) = ap (λ t. t || list_any test xs) (same x) ∙ ap (λ t. other x || t) (any_agree test other same xs)

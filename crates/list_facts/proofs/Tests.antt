@@ -1,13 +1,14 @@
 -- Tests: what `&&`, `||` and `not` make of known parts, and what tests of whole numbers say.
-use Rattle.std.proofs.Common.{◌≡◌, Bool, true, false, ◌&&◌, ◌||◌, ℤ, T, ◌<ℤ◌, ◌≤ℤ◌, int_le, int_lt, refl, sym, ap, ◌∙◌, arith}
+use Rattle.std.proofs.Common.{◌≡◌, Bool, true, false, not, ◌&&◌, ◌||◌, ℤ, T, ◌<ℤ◌, ◌≤ℤ◌, int_le, int_lt, refl, sym, ap, ◌∙◌, arith}
 use Rattle.std.proofs.lemmas.Bool.{and_from, and_left, and_right, false_from_ne_true}
 use Rattle.std.proofs.lemmas.Float.{T_from_true}
 use Rattle.std.proofs.lemmas.Int.{ints, by_lt_z}
 use Rattle.std.specs.Cmp.{first_so, second_so, signed_Decides}
-use Rattle.std.specs.Ordering.{int_eq}
+use Rattle.std.specs.Ordering.{int_cmp, int_eq, is_lt}
 use lib.Signed.{lt_z_yes, le_z_yes}
 use mathlib.Core.Bool.{true≢false}
 use Rattle.list_facts.specs.Between.{between}
+use Rattle.list_facts.specs.EitherOr.{exactly_one}
 
 pub true_from_T : (b : Bool) → T b → b ≡ true
 true_from_T true h = refl
@@ -19,6 +20,11 @@ clash b p q = absurd (true≢false (sym p ∙ q))
 
 pub clash_with : {A : Type 0} (p q : Bool) → p ≡ q → p ≡ true → q ≡ false → A
 clash_with p q e f g = clash p f (e ∙ g)
+
+-- what follows where a test passes, and where it fails
+pub by_test : {A : Type 0} (b : Bool) → (b ≡ true → A) → (b ≡ false → A) → A
+by_test true f g = f refl
+by_test false f g = g refl
 
 -- ---- where a part is known
 
@@ -75,6 +81,9 @@ le_from_false x y e = by_lt_z x y (λ l. clash (int_lt x y) (lt_true x y l) e) (
 pub lt_from_false : (x y : ℤ) → int_le x y ≡ false → y <ℤ x
 lt_from_false x y e = by_lt_z y x (λ l. l) (λ l. clash (int_le x y) (le_true x y l) e)
 
+pub not_le : (x y : ℤ) → not (int_le x y) ≡ int_lt y x
+not_le x y = by_lt_z y x (λ l. ap not (le_false x y l) ∙ sym (lt_true y x l)) (λ l. ap not (le_true x y l) ∙ sym (lt_false y x l))
+
 pub eq_true : (x y : ℤ) → x ≡ y → int_eq x y ≡ true
 eq_true x y e = (signed_Decides x y).1 e
 
@@ -83,6 +92,9 @@ eq_from_true x y e = (signed_Decides x y).0 e
 
 pub eq_false : (x y : ℤ) → (x ≡ y → ⊥) → int_eq x y ≡ false
 eq_false x y f = false_from_ne_true _ (λ e. f (eq_from_true x y e))
+
+pub not_before : (a b : ℤ) → is_lt (int_cmp b a) ≡ false → a ≤ℤ b
+not_before a b h = by_lt_z b a (λ l. absurd (grind (arith, ints))) (λ l. l)
 
 -- ---- from one up to another
 
@@ -100,3 +112,13 @@ from_between lo hi x e = le_from_true lo x (first_so (int_le lo x) (int_lt x hi)
 
 pub up_to_between : (lo hi x : ℤ) → between lo hi x ≡ true → x <ℤ hi
 up_to_between lo hi x e = lt_from_true x hi (second_so (int_le lo x) (int_lt x hi) e)
+
+-- an end is a place where what lies between changes
+pub between_ends : (a b x : ℤ) → a <ℤ b → between a b x ≡ exactly_one (int_le a x) (int_le b x)
+between_ends a b x l =
+    by_lt_z x a
+    (λ p. between_before a b x p ∙ sym (ap (λ q. exactly_one q (int_le b x)) (le_false a x p) ∙ le_false b x (omega (arith, ints))))
+    (λ p.
+    by_lt_z x b
+    (λ q. between_true a b x p q ∙ sym (ap (λ r. exactly_one r (int_le b x)) (le_true a x p) ∙ ap not (le_false b x q)))
+    (λ q. between_past a b x q ∙ sym (ap (λ r. exactly_one r (int_le b x)) (le_true a x p) ∙ ap not (le_true b x q))))

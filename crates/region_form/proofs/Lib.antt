@@ -1,4 +1,5 @@
 pub mod Parity
+pub mod FlipOrder
 pub mod FlipLines
 pub mod FlipRows
 pub mod LineFlips

@@ -1,16 +1,15 @@
 -- The rectangles that cover a square are those that have begun in its column and not ended.
-use Rattle.std.proofs.Common.{◌≡◌, inl, inr, Bool, true, false, not, ◌&&◌, ◌||◌, cond, eqb, ℕ, suc, ◌+◌, ◌*◌, ◌-◌, ◌%◌, ◌^◌, ◌<◌, ◌≤◌, ℤ, ◌<ℤ◌, ◌≤ℤ◌, int_le, int_lt, List, [], ◌∷◌, length, lit<, refl, sym, ap, ◌∙◌, arith}
+use Rattle.std.proofs.Common.{◌≡◌, inl, inr, Bool, true, false, not, ◌&&◌, ◌||◌, cond, eqb, ℕ, ◌+◌, ◌-◌, ◌^◌, ◌<◌, ◌≤◌, ℤ, ◌<ℤ◌, ◌≤ℤ◌, int_le, List, [], ◌∷◌, length, lit<, refl, sym, ap, ◌∙◌, arith}
 use Rattle.std.proofs.lemmas.Bool.Decides.{eqb_tells}
-use Rattle.std.proofs.lemmas.Int.{ints, by_lt_z}
-use Rattle.std.proofs.Math.Nat.{mul-suc}
-use Rattle.std.proofs.lemmas.Nat.{mod-mul-add}
+use Rattle.std.proofs.lemmas.Int.{ints}
 use mathlib.Core.Bool.{true≢false}
 use Rattle.std.specs.List.{AllByRecursion}
 use Rattle.list_facts.specs.Between.{between}
-use Rattle.list_facts.proofs.Tests.{le_false, le_from_true, le_true, lt_false, lt_true}
+use Rattle.list_facts.proofs.Tests.{le_from_true, le_true, not_le}
 use Rattle.drc_geom.specs.declared.rect.Rect.{Rect}
 use Rattle.drc_geom.specs.Squares.{IsRect, covered, squares_of}
 use Rattle.region_sweep.specs.Counts.{AreWide, times, times_up_to}
+use Rattle.region_sweep.proofs.Remainders.{difference_is, few_more}
 use Rattle.region_merge.specs.Working.Overlaps.{open_count}
 use Rattle.region_merge.specs.Working.Sides.{lower_sides, upper_sides}
 
@@ -37,9 +36,6 @@ sides_step false true c n m k h e = absurd (true≢false (sym (h refl)))
 sides_step false false true n m k h e = e
 sides_step false false false n m k h e = e
 
-not_le : (a y : ℤ) → not (int_le a y) ≡ int_lt y a
-not_le a y = by_lt_z y a (λ l. ap not (le_false a y l) ∙ sym (lt_true y a l)) (λ l. ap not (le_true a y l) ∙ sym (lt_false y a l))
-
 pub begun_and_ended : (rs : List Rect) (x y : ℤ) → AllByRecursion IsRect rs → times_up_to (lower_sides rs) x y ≡ times_up_to (upper_sides rs) x y + cover_count rs x y
 begun_and_ended [] x y a = refl
 begun_and_ended (r ∷ rs) x y a =
@@ -52,10 +48,6 @@ begun_and_ended (r ∷ rs) x y a =
 pub all_end : (rs : List Rect) (x : ℤ) → times (lower_sides rs) x ≡ times (upper_sides rs) x
 all_end [] x = refl
 all_end (r ∷ rs) x = ap (λ n. cond (between r.x0 r.x1 x) (n + 1) n) (all_end rs x)
-
-few_more : (b : Bool) (n m : ℕ) → n ≤ m → cond b (n + 1) n ≤ suc m
-few_more true n m l = omega arith
-few_more false n m l = omega arith
 
 few : (rs : List Rect) (x y : ℤ) → cover_count rs x y ≤ length rs
 few [] x y = omega arith
@@ -73,22 +65,15 @@ covered_some (r ∷ rs) x y = some_more (squares_of r x y) (cover_count rs x y) 
 
 -- ---- in 64 bits
 
-rearranged : (b n t : ℕ) → (b + n) + t ≡ (t + b) + n
-rearranged b n t = omega arith
-
-open_is : (b n k m : ℕ) → suc k ≡ m → n < m → ((b + n) + b * k) % m ≡ n
-open_is b n k m e l =
-    ap (λ t. t % m) (rearranged b n (b * k) ∙ ap (λ t. t + n) (sym (mul-suc b k) ∙ ap (λ t. b * t) e)) ∙ mod-mul-add b m n l
-
 pub inside_covered : (rs : List Rect) (x y : ℤ) (begun ended : ℕ) → AllByRecursion IsRect rs → length rs < 2 ^ 64 → begun ≡ times_up_to (lower_sides rs) x y → ended ≡ times_up_to (upper_sides rs) x y → not (eqb (open_count begun ended) 0) ≡ covered rs x y
 inside_covered rs x y begun ended a l e f =
     let n = cover_count rs x y in
     let small : n < 2 ^ 64 = (let m = few rs x y in omega arith) in
     let is : begun ≡ ended + n = e ∙ (begun_and_ended rs x y a ∙ ap (λ t. t + n) (sym f)) in
-    ap (λ t. not (eqb t 0)) (ap (λ t. open_count t ended) is ∙ open_is ended n (2 ^ 64 - 1) (2 ^ 64) refl small)
+    ap (λ t. not (eqb t 0)) (ap (λ t. open_count t ended) is ∙ difference_is ended n (2 ^ 64 - 1) (2 ^ 64) refl small)
     ∙ covered_some rs x y
 
 pub none_open : (b : ℕ) → not (eqb (open_count b b) 0) ≡ false
 none_open b =
     let e : b ≡ b + 0 = omega arith in
-    ap (λ t. not (eqb t 0)) (ap (λ t. open_count t b) e ∙ open_is b 0 (2 ^ 64 - 1) (2 ^ 64) refl (lit< tt))
+    ap (λ t. not (eqb t 0)) (ap (λ t. open_count t b) e ∙ difference_is b 0 (2 ^ 64 - 1) (2 ^ 64) refl (lit< tt))

@@ -18,6 +18,7 @@ use Rattle.row_state.specs.Entries.{value_from}
 use Rattle.row_state.specs.Pieces.{Tile}
 use Rattle.region_form.specs.declared.flip.Flip.{Flip}
 use Rattle.region_form.specs.Flips.{AreSorted, StandsBefore, changes, squares}
+use Rattle.region_form.proofs.FlipOrder.{all_behind}
 use Rattle.region_form.proofs.Parity.{squares_append}
 use Rattle.region_rects.specs.Working.Orders.{LiesBehind}
 use Rattle.region_rects.specs.declared.stretch.Stretch.{Stretch}
@@ -28,22 +29,6 @@ use Rattle.region_rects.specs.Working.Stretches.{BeganUpTo, ended, ended_one, ha
 use Rattle.region_rects.proofs.Sweeping.{IsSwept, LieUpTo, ends_within, none_past_end, swept_start, swept_step}
 
 -- ---- a flip among sorted ones
-
-stand_on : (f g : Flip) (gs : List Flip) → StandsBefore f g → g.x0 <ℤ g.x1 → AllByRecursion (StandsBefore g) gs → AllByRecursion (StandsBefore f) gs
-stand_on f g gs s w a =
-    all_weaker (StandsBefore g) (StandsBefore f) (λ h k. elim s [
-      | inl l ↦ inl (elim k [ inl m ↦ omega (arith, ints) | inr e ↦ let q : g.y ≡ h.y = e.0 in omega (arith, ints) ])
-      | inr e ↦
-          let q : f.y ≡ g.y = e.0 in
-          elim k [
-            | inl m ↦ inl (omega (arith, ints))
-            | inr o ↦ inr (e.0 ∙ o.0, let a : f.x1 <ℤ g.x0 = e.1 in let b : g.x1 <ℤ h.x0 = o.1 in omega (arith, ints))
-          ]
-    ]) gs a
-
-all_stand : (f : Flip) (fs : List Flip) → AreSorted (f ∷ fs) → AllByRecursion (StandsBefore f) fs
-all_stand f [] s = tt
-all_stand f (g ∷ gs) s = (s.1, stand_on f g gs s.1 s.2.0 (all_stand g gs s.2))
 
 stands_at : (f : Flip) (gs : List Flip) (k : ℕ) (d : Flip) → k < length gs → AllByRecursion (StandsBefore f) gs → StandsBefore f (get_or gs k d)
 stands_at f [] k d l a = absurd (omega arith)
@@ -60,14 +45,14 @@ pub record IsCut (fs : List Flip) (i : ℕ) (d : Flip) : Type 0 where
 
 pub cut : (fs : List Flip) (i : ℕ) (d : Flip) → i < length fs → AreSorted fs → IsCut fs i d
 cut [] i d l s = absurd (omega arith)
-cut (f ∷ fs) zero d l s = record { rest = fs; whole = refl; wide = s.0; lower = tt; higher = all_stand f fs s }
+cut (f ∷ fs) zero d l s = record { rest = fs; whole = refl; wide = s.0; lower = tt; higher = all_behind f fs s }
 cut (f ∷ fs) (suc i) d l s =
     let r = cut fs i d (omega arith) s.2 in
     record {
       rest = r.rest;
       whole = ap (λ gs. f ∷ gs) r.whole;
       wide = r.wide;
-      lower = (stands_at f fs i d (omega arith) (all_stand f fs s), r.lower);
+      lower = (stands_at f fs i d (omega arith) (all_behind f fs s), r.lower);
       higher = r.higher;
     }
 

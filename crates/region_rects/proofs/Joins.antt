@@ -1,8 +1,7 @@
 -- Joined pieces: they tile the same rows, and neighbours differ.
 use Rattle.std.proofs.Common.{◌≡◌, true, false, cond, ℤ, ◌<ℤ◌, List, [], ◌∷◌, sym, subst, ap, ◌∙◌, arith}
 use Rattle.std.proofs.lemmas.Int.{ints, by_lt_z}
-use Rattle.list_facts.proofs.Tests.{clash}
-use Rattle.chunked_list.proofs.Stretches.{by_test}
+use Rattle.list_facts.proofs.Tests.{by_test, clash}
 use Rattle.row_state.specs.declared.piece.Piece.{Piece}
 use Rattle.row_state.specs.Pieces.{Tile}
 use Rattle.region_rects.specs.declared.stretch.Stretch.{Stretch}

@@ -1,5 +1,5 @@
 -- Rectangles in another order cover the same squares and don't overlap either. Sorted, they ascend strictly.
-use Rattle.std.proofs.Common.{◌≡◌, inl, inr, Bool, true, false, ◌&&◌, ◌||◌, cond, ℕ, ◌≤◌, ℤ, List, [], ◌∷◌, refl, sym, subst, ap, ◌∙◌, arith}
+use Rattle.std.proofs.Common.{◌≡◌, inl, inr, true, false, ◌&&◌, ◌||◌, ℕ, ◌≤◌, ℤ, List, [], ◌∷◌, refl, sym, subst, ap, ◌∙◌, arith}
 use Rattle.std.proofs.lemmas.Bool.{and_from}
 use Rattle.std.proofs.lemmas.Int.{ints}
 use Rattle.std.proofs.lemmas.List.Sorted.{IsPermutation-sym, sum_by-IsPermutation}
@@ -7,17 +7,17 @@ use Rattle.std.proofs.lemmas.List.Sums.{sum_by-cons}
 use Rattle.std.specs.Cmp.{Equal-is, IsTotalOrder, both_ways, int_cmp_total, int_ranked, on_total, then_total}
 use Rattle.std.specs.List.{AllByRecursion, IsDistinct, sum_by}
 use Rattle.std.specs.List.Sorted.{IsPermutation, IsSorted, IsStrictlySortedBy}
-use Rattle.std.specs.Ordering.{eq_by_cmp, int_cmp, is_eq, ordering_then}
-use Rattle.std.specs.declared.cmp.Ordering.{Ordering}
-use Rattle.std.specs.declared.cmp.Ordering.TheVariants.{Less, Equal, Greater}
+use Rattle.std.specs.Ordering.{eq_by_cmp, int_cmp}
+use Rattle.std.specs.declared.cmp.Ordering.TheVariants.{Equal}
 use mathlib.Core.Bool.{true≢false}
 use Rattle.std.proofs.Math.Bool.{or-true}
 use Rattle.list_facts.proofs.InOrder.{ordered_from_sorted}
 use Rattle.list_facts.proofs.Members.{Has, all_from_has, has_holds, has_permuted}
-use Rattle.list_facts.proofs.Tests.{between_true, clash}
+use Rattle.list_facts.proofs.Tests.{between_true, by_test, clash}
 use Rattle.drc_geom.specs.declared.rect.Rect.{Rect}
-use Rattle.chunked_list.proofs.Stretches.{by_test}
+use Rattle.drc_geom.specs.RunOrder.{first_tied, rest_tied}
 use Rattle.drc_geom.specs.Squares.{IsRect, covered, squares_of}
+use Rattle.region_turn.proofs.Different.{counted_once, one_if}
 use Rattle.region_rects.specs.Canonical.{rect_order}
 use Rattle.region_rects.specs.Disjoint.{AreDisjoint}
 
@@ -57,9 +57,6 @@ covered_permuted xs ys x y p =
 
 -- ---- no two rectangles have one square: at most one has it
 
-abbrev one_if : Bool → ℕ
-one_if b = cond b 1 0
-
 abbrev count_of : (x y : ℤ) → List Rect → ℕ
 count_of x y = sum_by (λ r. one_if (squares_of r x y))
 
@@ -81,10 +78,6 @@ some_counted (r ∷ rs) x y e =
     by_test (squares_of r x y)
     (λ t. let a : one_if (squares_of r x y) ≡ 1 = ap one_if t in omega arith)
     (λ f. let b = some_counted rs x y (sym (ap (λ b. b || covered rs x y) f) ∙ e) in omega arith)
-
-one_small : (b : Bool) → one_if b ≤ 1
-one_small true = omega arith
-one_small false = omega arith
 
 at_most_one : (rs : List Rect) (x y : ℤ) → AreDisjoint rs → count_of x y rs ≤ 1
 at_most_one [] x y d = omega arith
@@ -115,7 +108,7 @@ disjoint_by_count (r ∷ rs) h = (
       (λ f. ap (λ b. squares_of r x y && b) f ∙ ap (λ b. b && false) t))
       (λ f. ap (λ b. b && covered rs x y) f),
   disjoint_by_count rs (λ x y.
-      let a = one_small (squares_of r x y) in
+      let a = counted_once (squares_of r x y) in
       let c = sum_by-cons (λ r. one_if (squares_of r x y)) r rs in
       let k = h x y in
       omega arith),
@@ -129,16 +122,6 @@ disjoint_permuted xs ys p d =
 
 pub rect_order_total : IsTotalOrder rect_order
 rect_order_total = then_total (on_total (λ r. r.y0) int_cmp_total) (on_total (λ r. r.x0) int_cmp_total)
-
-first_tied : (p q : Ordering) → ordering_then p q ≡ Equal → p ≡ Equal
-first_tied Less q e = e
-first_tied Equal q e = refl
-first_tied Greater q e = e
-
-rest_tied : (p q : Ordering) → ordering_then p q ≡ Equal → q ≡ Equal
-rest_tied Less q e = absurd (true≢false (sym (ap is_eq e)))
-rest_tied Equal q e = e
-rest_tied Greater q e = absurd (true≢false (sym (ap is_eq e)))
 
 has_corner : (r : Rect) (x y : ℤ) → IsRect r → r.x0 ≡ x → r.y0 ≡ y → squares_of r x y ≡ true
 has_corner r x y i p q =

@@ -16,6 +16,7 @@ use Rattle.row_state.specs.Entries.{value_from}
 use Rattle.row_state.specs.Pieces.{Tile}
 use Rattle.region_form.specs.declared.flip.Flip.{Flip}
 use Rattle.region_form.specs.Flips.{changes, squares}
+use Rattle.region_form.proofs.FlipOrder.{all_nearer, far_end}
 use Rattle.region_form.proofs.Parity.{squares_append}
 use Rattle.region_rects.specs.Working.Orders.{LiesBehind}
 use Rattle.region_rects.specs.declared.stretch.Stretch.{Stretch}
@@ -272,25 +273,6 @@ module _ (past : List Flip) (f : Flip) (row next : List (Entry Stretch)) (ps : L
 
 -- ---- the end
 
-abbrev far : List Flip → ℤ → ℤ
-far [] a = a
-far (f ∷ fs) a = cond (int_le f.x1 (far fs a)) (far fs a) f.x1
-
-farther : (f : Flip) (x : ℤ) → (x ≤ℤ cond (int_le f.x1 x) x f.x1) × (f.x1 ≤ℤ cond (int_le f.x1 x) x f.x1)
-farther f x =
-    by_lt_z x f.x1
-    (λ l. subst (λ b. (x ≤ℤ cond b x f.x1) × (f.x1 ≤ℤ cond b x f.x1)) (sym (le_false f.x1 x l)) (omega (arith, ints), omega (arith, ints)))
-    (λ l. subst (λ b. (x ≤ℤ cond b x f.x1) × (f.x1 ≤ℤ cond b x f.x1)) (sym (le_true f.x1 x l)) (omega (arith, ints), l))
-
-all_nearer : (fs : List Flip) (a : ℤ) → AllByRecursion (λ f. f.x1 ≤ℤ far fs a) fs × (a ≤ℤ far fs a)
-all_nearer [] a = (tt, omega (arith, ints))
-all_nearer (f ∷ fs) a =
-    let rest = all_nearer fs a in
-    let step = farther f (far fs a) in
-    let k : a ≤ℤ far fs a = rest.1 in
-    let m : far fs a ≤ℤ far (f ∷ fs) a = step.0 in
-    ((step.1, all_weaker (λ g. g.x1 ≤ℤ far fs a) (λ g. g.x1 ≤ℤ far (f ∷ fs) a) (λ g h. omega (arith, ints)) fs rest.0), omega (arith, ints))
-
 none_far : (fs : List Flip) (x y : ℤ) → AllByRecursion (λ f. f.x1 ≤ℤ x) fs → squares fs x y ≡ false
 none_far [] x y a = refl
 none_far (f ∷ fs) x y a =
@@ -301,7 +283,7 @@ module _ (turned region : List Flip) (row : List (Entry Stretch)) (rects : List 
   none_begun : (x y : ℤ) (v : Stretch) → value_from None row y ≡ v → has_begun v x ≡ false
   none_begun x y None e = refl
   none_begun x y (From a) e =
-      let at = far region a in
+      let at = far_end region a in
       let near = all_nearer region a in
       clash (squares turned y at)
       (s.has at y ∙ (ap (λ v. covered rects at y || has_begun v at) e ∙ (ap (λ b. covered rects at y || b) (le_true a at near.1) ∙ or_right_true (covered rects at y))))

@@ -4,10 +4,9 @@ use Rattle.std.proofs.lemmas.Int.{ints}
 use Rattle.std.proofs.lemmas.Bool.{and_from, not-true}
 use Rattle.std.specs.Cmp.{first_so, second_so}
 use Rattle.list_facts.specs.Between.{between}
-use Rattle.list_facts.proofs.Tests.{between_true, clash, from_between, or_right_known, up_to_between}
+use Rattle.list_facts.proofs.Tests.{between_true, by_test, clash, from_between, or_right_known, up_to_between}
 use Rattle.drc_geom.specs.Squares.{Squares, squares_of}
 use Rattle.drc_geom.specs.declared.rect.Rect.{Rect}
-use Rattle.chunked_list.proofs.Stretches.{by_test}
 use Rattle.region_size.specs.Sizes.{AllNear, HasNear, IsNear, IsWithin, LieWithin}
 
 near_itself : (d x y : ℤ) → pos 0 ≤ℤ d → IsNear d x y x y

@@ -14,7 +14,7 @@ use Rattle.list_facts.specs.Between.{between}
 use Rattle.list_facts.specs.EitherOr.{exactly_one}
 use Rattle.list_facts.proofs.EitherOr.{one_assoc, one_right_false}
 use Rattle.list_facts.proofs.Members.{all_append, all_weaker}
-use Rattle.list_facts.proofs.Tests.{and_known, between_before, between_past, between_true, le_false, le_true}
+use Rattle.list_facts.proofs.Tests.{and_known, between_ends, le_false, le_true, not_before}
 use Rattle.region_form.specs.declared.flip.Flip.{Flip}
 use Rattle.region_form.specs.Flips.{AreBelow, AreSorted, StandsBeforeFirst, is_odd, squares}
 use Rattle.region_sweep.specs.Working.Ends.{AscendStrictly, AscendWeakly, DoesNotEndWith, EndsWith, flips_of, is_odd_number, odd_ends}
@@ -140,15 +140,6 @@ too_few line [] l = refl
 too_few line (a ∷ []) l = refl
 too_few line (a ∷ b ∷ es) l = absurd (omega arith)
 
-between_ends : (a b x : ℤ) → a <ℤ b → between a b x ≡ exactly_one (int_le a x) (int_le b x)
-between_ends a b x l =
-    by_lt_z x a
-    (λ p. between_before a b x p ∙ sym (ap (λ q. exactly_one q (int_le b x)) (le_false a x p) ∙ le_false b x (omega (arith, ints))))
-    (λ p.
-    by_lt_z x b
-    (λ q. between_true a b x p q ∙ sym (ap (λ r. exactly_one r (int_le b x)) (le_true a x p) ∙ ap not (le_false b x q)))
-    (λ q. between_past a b x q ∙ sym (ap (λ r. exactly_one r (int_le b x)) (le_true a x p) ∙ ap not (le_true b x q))))
-
 even_rest : (b : Bool) → not (not b) ≡ false → b ≡ false
 even_rest true e = e
 even_rest false e = e
@@ -244,9 +235,6 @@ weakly_from_pairs (e ∷ es) h = (
   recursion_from_All (λ f. e ≤ℤ f) es (λ k d lt. h 0 (suc k) d (omega arith) (omega arith)),
   weakly_from_pairs es (λ i j d lt less. h (suc i) (suc j) d (omega arith) (omega arith)),
 )
-
-not_before : (a b : ℤ) → is_lt (int_cmp b a) ≡ false → a ≤ℤ b
-not_before a b h = by_lt_z b a (λ l. absurd (grind (arith, ints))) (λ l. l)
 
 pub weakly_from_sort : (es : List ℤ) → IsSorted int_cmp es → AscendWeakly es
 weakly_from_sort es up =

@@ -1,3 +1,4 @@
+pub mod Remainders
 mod EndFlips
 mod Turned
 mod CountedFlips

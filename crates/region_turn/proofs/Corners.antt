@@ -9,11 +9,10 @@ use Rattle.std.proofs.lemmas.List.Sums.{sum_by-cons}
 use Rattle.std.specs.List.{AllPairs, AllByRecursion, sum_by}
 use Rattle.std.specs.List.Sorted.{IsPermutation, IsSortedByKey}
 use Rattle.std.specs.Ordering.{int_cmp, is_lt, ordering_then}
-use Rattle.list_facts.specs.Between.{between}
 use Rattle.list_facts.specs.EitherOr.{exactly_one}
 use Rattle.list_facts.proofs.EitherOr.{one_assoc, one_twice}
 use Rattle.list_facts.proofs.Members.{all_weaker}
-use Rattle.list_facts.proofs.Tests.{clash, between_before, between_past, between_true, le_false, le_from_false, le_true, lt_from_true}
+use Rattle.list_facts.proofs.Tests.{clash, between_ends, le_false, le_from_false, le_true, lt_from_true}
 use Rattle.region_form.specs.declared.flip.Flip.{Flip}
 use Rattle.region_form.specs.Flips.{AreSorted, changes, is_odd, squares}
 use Rattle.region_turn.specs.declared.corner.Corner.{Corner}
@@ -36,15 +35,6 @@ too_few (a ∷ []) l = refl
 too_few (a ∷ b ∷ cs) l = absurd (omega arith)
 
 -- ---- corners of flips
-
-between_ends : (a b x : ℤ) → a <ℤ b → between a b x ≡ exactly_one (int_le a x) (int_le b x)
-between_ends a b x l =
-    by_lt_z x a
-    (λ p. between_before a b x p ∙ sym (ap (λ q. exactly_one q (int_le b x)) (le_false a x p) ∙ le_false b x (omega (arith, ints))))
-    (λ p.
-    by_lt_z x b
-    (λ q. between_true a b x p q ∙ sym (ap (λ r. exactly_one r (int_le b x)) (le_true a x p) ∙ ap not (le_false b x q)))
-    (λ q. between_past a b x q ∙ sym (ap (λ r. exactly_one r (int_le b x)) (le_true a x p) ∙ ap not (le_true b x q))))
 
 -- two corners count in one row
 one_row : (p q r s : Bool) → exactly_one (p && r) (exactly_one (q && r) s) ≡ exactly_one (r && exactly_one p q) s
@@ -125,9 +115,6 @@ ascend_from_pairs (c ∷ cs) h = (
   recursion_from_All (Follows c) cs (λ k d lt. h 0 (suc k) d (omega arith) (omega arith)),
   ascend_from_pairs cs (λ i j d lt less. h (suc i) (suc j) d (omega arith) (omega arith)),
 )
-
-no_lower : (r s : ℤ) → is_lt (int_cmp s r) ≡ false → r ≤ℤ s
-no_lower r s h = by_lt_z s r (λ l. absurd (grind (arith, ints))) (λ l. l)
 
 follows_cases : (l0 r0 l1 r1 : ℤ) → is_lt (ordering_then (int_cmp l1 l0) (int_cmp r1 r0)) ≡ false → (l0 <ℤ l1) ⊎ ((l0 ≡ l1) × (r0 ≤ℤ r1))
 follows_cases l0 r0 l1 r1 h =

@@ -13,7 +13,7 @@ use Rattle.region_turn.specs.declared.corner.Corner.{Corner}
 use Rattle.region_turn.specs.Working.Corners.{Ascend, Follows, corners_of, flips_between, odd_up_to}
 use Rattle.region_turn.proofs.Corners.{even_behind, first_line_is}
 
-abbrev one_if : Bool → ℕ
+abbrev pub one_if : Bool → ℕ
 one_if b = cond b 1 0
 
 abbrev at_place : ℤ → ℤ → Corner → ℕ
@@ -31,7 +31,8 @@ counted_off false q n = refl
 counted_on : (p q : Bool) → p ≡ true → q ≡ true → one_if (p && q) ≡ 1
 counted_on p q e f = ap (λ b. one_if (b && q)) e ∙ ap one_if f
 
-counted_once : (b : Bool) → one_if b ≤ 1
+-- a fact counts at most once
+pub counted_once : (b : Bool) → one_if b ≤ 1
 counted_once true = omega arith
 counted_once false = omega arith
 

@@ -1,2 +1,2 @@
 mod Corners
-mod Different
+pub mod Different

@@ -3,7 +3,7 @@ use Rattle.std.proofs.Common.{◌≡◌, Bool, true, false, cond, ℤ, ◌<ℤ�
 use Rattle.std.proofs.lemmas.Int.{ints, by_lt_z}
 use mathlib.Core.Bool.{true≢false}
 use Rattle.list_facts.proofs.Members.{all_weaker}
-use Rattle.list_facts.proofs.Tests.{lt_false, lt_true}
+use Rattle.list_facts.proofs.Tests.{by_test, lt_false, lt_true}
 use Rattle.row_state.specs.declared.entry.Entry.{Entry}
 use Rattle.row_state.specs.declared.piece.Piece.{Piece}
 use Rattle.row_state.specs.declared.walk.Walk.{Walk}
@@ -11,10 +11,6 @@ use Rattle.row_state.specs.Entries.{value_from, last_value, Ascend, Differ}
 use Rattle.row_state.specs.Pieces.{Tile}
 use Rattle.row_state.specs.Working.Walks.{entry_of, entries_of, pieces_of}
 use Rattle.row_state.proofs.Entries.{AllFrom, AllUpTo, AllBefore, all_join, ascend_join, behind, differ_join, last_join, value_before, value_first, value_join, from_more}
-
-by_test : {A : Type 0} (b : Bool) → (b ≡ true → A) → (b ≡ false → A) → A
-by_test true f g = f refl
-by_test false f g = g refl
 
 module _ {V : Type 0} (end : ℤ) where
   -- the entries from where a walk stands up to the end

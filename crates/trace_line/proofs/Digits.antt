@@ -3,39 +3,28 @@ use Rattle.std.proofs.Common.{◌≡◌, ℕ, ◌+◌, ◌-◌, ◌*◌, ◌^◌
 use Rattle.std.specs.Char.{is_ascii_digit, digit_value}
 use Rattle.std.specs.Fmt.{decimal}
 use Rattle.std.specs.List.{AllPass, AllByRecursion, prefix_len}
-use Rattle.std.specs.Str.{bytes_eq}
 use Rattle.std.specs.Str.Parse.{digits_value, AllDigits}
 use Rattle.std.proofs.Math.Nat.{pow-le-pow_right}
-use Rattle.std.proofs.lemmas.Bool.{and_parts, and_from, or_cases, or_left, or_right, not-true, not_from_false, cases_lt, ltb-true, leb-true, lt-ltb, le-ltb, le-leb, eqb-true, eqb-false, eq-eqb, ne_eqb}
+use Rattle.std.proofs.lemmas.Bool.{and_parts, and_from, or_cases, or_left, or_right, not-true, not_from_false, cases_lt, ltb-true, lt-ltb, le-leb, eqb-true, eqb-false, eq-eqb, ne_eqb}
 use Rattle.std.proofs.lemmas.Fmt.{digits_decimal, decimal_nonempty, length-decimal-le, first_decimal, decimal_digit}
 use Rattle.std.proofs.lemmas.Int.Digits.{digits_value-lt, digits_value_more}
 use Rattle.std.proofs.lemmas.List.{take_at, drop_at, take-append-drop, get_or-take}
-use Rattle.std.proofs.lemmas.List.Elements.{recursion_from_All}
 use Rattle.std.proofs.lemmas.List.Folds.{length-prefix_len}
 use Rattle.std.proofs.lemmas.List.Sums.{prefix_len_passes}
 use Rattle.std.proofs.lemmas.Option.{cond_some}
-use Rattle.std.proofs.lemmas.Slice.Eq.{bytes_eq-Decides}
-use Rattle.std.proofs.lemmas.Str.Parse.{IsNumeralModel, numerals_by_value, tells_digits, digits_value-take-le, digit_from_value}
+use Rattle.std.proofs.lemmas.Str.Parse.{digits_value-take-le}
+use Rattle.list_facts.proofs.Texts.{left_takes, left_again, digit_range, digit_is, all_digits, digits_pass_each, numerals}
 use Rattle.trace_line.specs.Working.Reading.{after_words, is_numeral, digits_at, numeral_at}
 
 -- ---- given words
 
 pub after_takes : (words bytes rest : List ℕ) → after_words words bytes ≡ Some rest → bytes ≡ words ++ rest
 unfolding after_words
-after_takes words bytes rest e =
-    let g = cond_some (bytes_eq (take (length words) bytes) words) (drop (length words) bytes) rest e in
-    let t : take (length words) bytes ≡ words = (bytes_eq-Decides (take (length words) bytes) words).0 g.0 in
-    let s : take (length words) bytes ++ drop (length words) bytes ≡ bytes = take-append-drop (length words) bytes in
-    let d : drop (length words) bytes ≡ rest = g.1 in
-    cc
+after_takes = left_takes
 
 pub after_again : (words rest : List ℕ) → after_words words (words ++ rest) ≡ Some rest
 unfolding after_words
-after_again words rest =
-    let t : take (length words) (words ++ rest) ≡ words = take_at words rest (length words) refl in
-    let d : drop (length words) (words ++ rest) ≡ rest = drop_at words rest (length words) refl in
-    let g : bytes_eq (take (length words) (words ++ rest)) words ≡ true = (bytes_eq-Decides (take (length words) (words ++ rest)) words).1 t in
-    rw g (ap (λ (x : List ℕ). Some x) d)
+after_again = left_again
 
 -- ---- digits
 
@@ -53,30 +42,6 @@ digits_len : (ds rest : List ℕ) → AllByRecursion (λ c. is_ascii_digit c ≡
 digits_len [] [] h s = refl
 digits_len [] (b ∷ more) h s = rw s refl
 digits_len (c ∷ ds) rest h s = rw h.0 (omega (arith, digits_len ds rest h.1 s))
-
-digit_range : (c : ℕ) → is_ascii_digit c ≡ true → (48 ≤ c) × (c ≤ 57)
-digit_range c h = let both = and_parts (leb 48 c) (leb c 57) h in (leb-true 48 c both.0, leb-true c 57 both.1)
-
-digit_is : (c : ℕ) → 48 ≤ c → c ≤ 57 → digit_value c ≡ c - 48
-digit_is c low high = rw (le-ltb c 48 low, lt-ltb c 58 (omega arith)) refl
-
-digits_run : (ds : List ℕ) → AllByRecursion (λ c. is_ascii_digit c ≡ true) ds → AllDigits 10 ds
-digits_run [] h = tt
-digits_run (c ∷ cs) h =
-    let r = digit_range c h.0 in
-    (omega (arith, r.0, r.1, digit_is c r.0 r.1), digits_run cs h.1)
-
-pub all_digits : (ds : List ℕ) → AllPass is_ascii_digit ds → AllDigits 10 ds
-all_digits ds h = digits_run ds (recursion_from_All (λ c. is_ascii_digit c ≡ true) ds h)
-
-passes_run : (ds : List ℕ) → AllDigits 10 ds → AllByRecursion (λ c. is_ascii_digit c ≡ true) ds
-passes_run [] h = tt
-passes_run (c ∷ cs) h =
-    let r = digit_from_value c h.0 in
-    (and_from (leb 48 c) (leb c 57) (le-leb 48 c r.0) (le-leb c 57 r.1), passes_run cs h.1)
-
-pub own : IsNumeralModel (AllDigits 10) (digits_value 10)
-own = numerals_by_value (AllDigits 10) tells_digits
 
 -- one more digit, where there are at most twenty
 pub one_more_digit : (ds : List ℕ) (i : ℕ) → i < length ds → length ds ≤ 20 → AllPass is_ascii_digit ds
@@ -133,7 +98,7 @@ decimal_is_numeral n wide =
 pub numeral_again : (n : ℕ) (rest : List ℕ) → n < 2 ^ 64 → NoDigit rest → numeral_at (decimal n ++ rest) ≡ Some (decimal n, rest)
 unfolding numeral_at
 numeral_again n rest wide stops =
-    let run = passes_run (decimal n) (digits_decimal own n wide) in
+    let run = digits_pass_each (decimal n) (digits_decimal numerals n wide) in
     let k : length (decimal n) ≡ prefix_len is_ascii_digit (decimal n ++ rest) = sym (digits_len (decimal n) rest run stops) in
     let t : take (prefix_len is_ascii_digit (decimal n ++ rest)) (decimal n ++ rest) ≡ decimal n = take_at (decimal n) rest _ k in
     let d : drop (prefix_len is_ascii_digit (decimal n ++ rest)) (decimal n ++ rest) ≡ rest = drop_at (decimal n) rest _ k in

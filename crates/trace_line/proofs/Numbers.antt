@@ -7,9 +7,10 @@ use Rattle.std.proofs.lemmas.Fmt.{decimal-digits_value, digits_value-decimal}
 use Rattle.std.proofs.lemmas.Option.{cond_some, same_Some}
 use Rattle.list_facts.specs.Attempts.{◌>>=◌}
 use Rattle.list_facts.proofs.Attempts.{found_by}
+use Rattle.list_facts.proofs.Texts.{numerals}
 use Rattle.trace_line.specs.Lines.{space, line_feed, one_number, two_numbers, three_numbers}
 use Rattle.trace_line.specs.Working.Reading.{after_words, numeral_at, number_at, number_before, two_at, three_at, most_32}
-use Rattle.trace_line.proofs.Digits.{after_takes, after_again, NoDigit, own, numeral_takes, numeral_again}
+use Rattle.trace_line.proofs.Digits.{after_takes, after_again, NoDigit, numeral_takes, numeral_again}
 
 -- ---- one number
 
@@ -25,14 +26,14 @@ number_takes most bytes n rest wide e =
     let g = cond_some (leb (digits_value 10 b.0.0) most) (digits_value 10 b.0.0, b.0.1) (n, rest) b.2 in
     let t = numeral_takes bytes b.0.0 b.0.1 b.1 in
     let small : digits_value 10 b.0.0 ≤ most = leb-true (digits_value 10 b.0.0) most g.0 in
-    let plain : decimal (digits_value 10 b.0.0) ≡ b.0.0 = decimal-digits_value own b.0.0 t.digits t.some t.lone (omega arith) in
+    let plain : decimal (digits_value 10 b.0.0) ≡ b.0.0 = decimal-digits_value numerals b.0.0 t.digits t.some t.lone (omega arith) in
     subst (λ (y : ℕ × List ℕ). TakesNumber most bytes y.0 y.1) g.1
     (record { parts = t.parts ∙ ap (λ (x : List ℕ). x ++ b.0.1) (sym plain); small = small })
 
 number_again : (most n : ℕ) (rest : List ℕ) → most < 2 ^ 64 → n ≤ most → NoDigit rest → number_at most (decimal n ++ rest) ≡ Some (n, rest)
 unfolding number_at
 number_again most n rest wide small stops =
-    rw (numeral_again n rest (omega arith) stops, digits_value-decimal own n (omega arith), le-leb n most small) refl
+    rw (numeral_again n rest (omega arith) stops, digits_value-decimal numerals n (omega arith), le-leb n most small) refl
 
 pub before_takes : (most : ℕ) (words bytes : List ℕ) (n : ℕ) (rest : List ℕ) → most < 2 ^ 64 → number_before most words bytes ≡ Some (n, rest)
     → (bytes ≡ decimal n ++ (words ++ rest)) × (n ≤ most)

@@ -7,7 +7,7 @@ use Rattle.ledger_history.specs.declared.event.Event.{Event}
 use Rattle.ledger_history.specs.declared.event.Event.TheVariants.{Charge}
 use Rattle.ledger_history.specs.Histories.{Setup, is_charged}
 use Rattle.ledger_history.specs.Enabled.{Legal}
-use Rattle.ledger_history.proofs.Choices.{eqb_refl}
+use Rattle.ledger_history.proofs.Choices.{eqb_itself}
 use Rattle.ledger_history.proofs.Orders.{charged_is_claimed, claimed_is_there}
 use Rattle.ledger_record.specs.declared.history.History.{History}
 use Rattle.ledger_record.specs.Records.{past, setup_of, IsLegalFor, IsCompleteFor}
@@ -22,7 +22,7 @@ charged_of : (s : Setup) (h : List Event) (i : ℕ) → Legal s h → is_charged
 charged_of s [] i l p = absurd cc
 charged_of s (Charge w j c ∷ h) i l p =
     elim (cases_eq j i) [
-      | inl e ↦ ap (λ b. cond b c (charged_cost h i)) (ap (eqb j) (sym e) ∙ eqb_refl j) ∙ (l.0).cost ∙ ap s.cost e
+      | inl e ↦ ap (λ b. cond b c (charged_cost h i)) (ap (eqb j) (sym e) ∙ eqb_itself j) ∙ (l.0).cost ∙ ap s.cost e
       | inr e ↦ ap (λ b. cond b c (charged_cost h i)) (ne_eqb j i e) ∙ charged_of s h i l.1 (sym (ap (λ b. b || is_charged h i) (ne_eqb j i e)) ∙ p)
     ]
 charged_of s (e ∷ h) i l p = charged_of s h i l.1 p
@@ -31,7 +31,7 @@ charged_of s (e ∷ h) i l p = charged_of s h i l.1 p
 have_costs : (s : Setup) (g : ℕ → ℕ) (all h : List Event) → ((i : ℕ) → is_charged all i ≡ true → g i ≡ s.cost i) → ((i : ℕ) → is_charged h i ≡ true → is_charged all i ≡ true) → Legal s h → HaveCosts g h
 have_costs s g all [] f k l = tt
 have_costs s g all (Charge w j c ∷ h) f k l =
-    let here : is_charged all j ≡ true = k j (or_left (eqb j j) (is_charged h j) (eqb_refl j)) in
+    let here : is_charged all j ≡ true = k j (or_left (eqb j j) (is_charged h j) (eqb_itself j)) in
     ((l.0).cost ∙ sym (f j here), have_costs s g all h f (λ i p. k i (or_right (eqb j i) (is_charged h i) p)) l.1)
 have_costs s g all (e ∷ h) f k l = (tt, have_costs s g all h f (λ i p. k i p) l.1)
 

@@ -1,13 +1,14 @@
 -- What was read up to a place are the first lines of some trace: the rest can be filled in.
 use Rattle.std.proofs.Common.{◌≡◌, ℕ, zero, suc, ◌+◌, ◌-◌, ◌<◌, ◌^◌, List, [], ◌∷◌, ◌++◌, length, map, refl, sym, ap, ◌∙◌, append_assoc, append-nil, length-append, arith}
 use Rattle.std.specs.List.{AllByRecursion}
+use Rattle.list_facts.proofs.Members.{all_append}
 use Rattle.trace_line.specs.declared.line.Line.TheVariants as lines
 use Rattle.trace_text.specs.declared.place.LinePlace.{LinePlace}
 use Rattle.trace_text.specs.declared.place.LinePlace.TheVariants.{Title, Operations, Workers, Budget, Costs, Events, Nothing}
 use Rattle.trace_text.specs.Traces.{Told, IsTrace, cost_lines, lines_of}
 use Rattle.trace_text.specs.Fronts.{IsFront}
 use Rattle.trace_text.specs.Places.{lines_before, IsReadTo}
-use Rattle.trace_text.proofs.LineLists.{all_append, cost_lines-append}
+use Rattle.trace_text.proofs.LineLists.{cost_lines-append}
 
 -- so many costs of 0
 zeros : ℕ → List ℕ

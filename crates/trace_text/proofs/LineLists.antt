@@ -8,10 +8,6 @@ use Rattle.trace_text.specs.Traces.{cost_lines}
 
 -- ---- all of a list
 
-pub all_append : {A : Type 0} (P : A → Type 0) (xs ys : List A) → AllByRecursion P xs → AllByRecursion P ys → AllByRecursion P (xs ++ ys)
-all_append P [] ys p q = q
-all_append P (x ∷ xs) ys p q = (p.0, all_append P xs ys p.1 q)
-
 pub all_front : {A : Type 0} (P : A → Type 0) (xs ys : List A) → AllByRecursion P (xs ++ ys) → AllByRecursion P xs
 all_front P [] ys p = tt
 all_front P (x ∷ xs) ys p = (p.0, all_front P xs ys p.1)

@@ -2,6 +2,7 @@
 use Rattle.std.proofs.Common.{◌≡◌, ℕ, ◌+◌, ◌<◌, ◌≤◌, ◌^◌, Bool, true, false, ltb, cond, List, [], ◌∷◌, ◌++◌, length, map, refl, sym, ap, subst, ◌∙◌, append_assoc, append-nil, length-append, arith}
 use Rattle.std.specs.List.{AllByRecursion}
 use Rattle.std.proofs.lemmas.Bool.{ltb-true, ltb-false, eqb-true}
+use Rattle.list_facts.proofs.Members.{all_append}
 use Rattle.trace_line.specs.declared.line.Line.{Line}
 use Rattle.trace_line.specs.declared.line.Line.TheVariants as lines
 use Rattle.trace_line.specs.Lines.{IsLine, HasText}
@@ -10,7 +11,7 @@ use Rattle.trace_text.specs.declared.place.LinePlace.TheVariants.{Title, Operati
 use Rattle.trace_text.specs.Traces.{Told, cost_lines}
 use Rattle.trace_text.specs.Places.{lines_before, IsReadTo}
 use Rattle.trace_text.specs.Working.Places.{admits, with_line, costs_or_events, place_behind}
-use Rattle.trace_text.proofs.LineLists.{all_append, cost_lines-append, map_step-append}
+use Rattle.trace_text.proofs.LineLists.{cost_lines-append, map_step-append}
 
 -- the lines up to the next place are those before and this one
 pub record Follows (place : LinePlace) (t : Told) (next : LinePlace) (u : Told) (l : Line) : Type 0 where

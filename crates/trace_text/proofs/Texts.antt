@@ -1,6 +1,7 @@
 -- Texts of lines: two lists of lines at the front of one text are one behind the other.
 use Rattle.std.proofs.Common.{◌≡◌, ℕ, ◌+◌, ◌<◌, ◌≤◌, ◌^◌, ◌⊎◌, inl, inr, List, [], ◌∷◌, ◌++◌, length, map, refl, sym, ap, subst, ◌∙◌, append_assoc, length-append, arith}
 use Rattle.std.specs.List.{AllByRecursion}
+use Rattle.list_facts.proofs.Members.{all_append}
 use Rattle.ledger_history.specs.declared.event.Event.{Event}
 use Rattle.ledger_history.specs.declared.event.Event.TheVariants.{Claim, Charge, Publish, Release, Stop}
 use Rattle.trace_line.specs.declared.line.Line.{Line}
@@ -9,7 +10,7 @@ use Rattle.trace_line.specs.Lines.{title, before_operations, before_workers, bef
 use Rattle.trace_line.proofs.LineLaws.{one_line}
 use Rattle.trace_text.specs.Traces.{Told, IsTrace, cost_lines, lines_of, text_of}
 use Rattle.trace_text.specs.Fronts.{IsFront}
-use Rattle.trace_text.proofs.LineLists.{all_append, all_front}
+use Rattle.trace_text.proofs.LineLists.{all_front}
 
 -- a line has a byte
 pub line_some : (l : Line) → IsLine l → 0 < length (line_text l)

@@ -2,7 +2,7 @@
 use Rattle.std.specs.Prelude.{◌&&◌, ◌||◌, Bool, true, false, List, [], ◌∷◌, map, take, reverse}
 use Rattle.deck_grammar.specs.declared.kind.Kind.{Kind}
 use Rattle.deck_grammar.specs.Lexemes.{Lexeme, kind}
-use Rattle.deck_cursor.specs.Working.Numbers.{same_kind}
+use Rattle.deck_grammar.specs.Working.Numbers.{same_kind}
 
 -- the kinds of the last seven tokens, the last first
 abbrev pub latest : List Lexeme → List Kind

@@ -11,7 +11,7 @@ use Rattle.deck_grammar.specs.declared.kind.Kind.{Kind}
 use Rattle.deck_grammar.specs.Rules.{Part}
 use Rattle.deck_grammar.specs.Refusals.{Stand, open_behind, IsSetAside, IsWrong, IsRefused, refusal_at}
 use Rattle.deck_cursor.specs.Places.{lexemes}
-use Rattle.deck_front.specs.Stacks.{Among, Empties, Behind}
+use Rattle.deck_stacks.specs.Stacks.{Among, Empties, Behind}
 use Rattle.deck_refusal.specs.declared.walk.Walk.{Walk}
 use Rattle.deck_refusal.specs.declared.walk.Gone.{Gone}
 use Rattle.deck_refusal.specs.declared.walk.Gone.TheVariants as gone

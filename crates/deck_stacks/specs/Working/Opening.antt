@@ -4,8 +4,8 @@ use Rattle.deck_grammar.specs.declared.kind.Kind.{Kind}
 use Rattle.deck_grammar.specs.Rules.{Part, token, rule}
 use Rattle.deck_stacks.specs.declared.part.Part.{Part as Piece}
 use Rattle.deck_stacks.specs.Parts.{part_of}
-use Rattle.deck_front.specs.Working.Tables.{may_be_empty}
-use Rattle.deck_front.specs.Working.Deriving.{all_empty}
+use Rattle.deck_stacks.specs.Working.Tables.{may_be_empty}
+use Rattle.deck_stacks.specs.Working.Deriving.{all_empty}
 
 -- the kind of the token that a part is, if it is one
 abbrev pub token_of : Part → Option Kind

@@ -10,13 +10,13 @@ use Rattle.drc_cli.specs.declared.lines.Reason.{Reason}
 use Rattle.drc_cli.specs.Lines.{Refusal, deck_line, layout_line, read_line, memory_line}
 
 abbrev pub status_of : Ending → Status
-status_of (ending.Deck refusal) = status.Deck refusal
+status_of (ending.Deck refusal detail) = status.Deck refusal
 status_of (ending.Layout refusal) = status.Layout refusal
 status_of (ending.ReadFault file name) = status.ReadFault file
 status_of ending.Memory = status.NoMemory
 
 abbrev pub line_of : Ending → List ℕ
-line_of (ending.Deck refusal) = deck_line refusal
+line_of (ending.Deck refusal detail) = deck_line refusal detail
 line_of (ending.Layout refusal) = layout_line refusal
 line_of (ending.ReadFault file name) = read_line name
 line_of ending.Memory = memory_line

@@ -1,5 +1,5 @@
 -- A step that was tried, by what the call answered.
-use Rattle.std.specs.Prelude.{ℕ, List, Bool, Result, Ok, Err}
+use Rattle.std.specs.Prelude.{Bool, Result, Ok, Err}
 use Rattle.drc_ports.specs.declared.failed.Failed.{Failed}
 use Rattle.drc_ports.specs.Files.{World}
 use Rattle.drc_cli.specs.Outcome.{Step}

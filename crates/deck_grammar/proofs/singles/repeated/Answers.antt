@@ -1,7 +1,8 @@
 use Rattle.std.proofs.Common.{◌+◌, take, drop, sym, subst, ◌∙◌, refl, Contains, arith}
 use Rattle.std.proofs.lemmas.List.{take_all}
+use Rattle.std.proofs.lemmas.Option.{same_Some}
 use Rattle.deck_grammar.specs.Refusals.{singles, StandOnce}
-use Rattle.deck_grammar.proofs.OnceFacts.{take_next, whole_is, stand_once_more, none_once, never, same_some}
+use Rattle.deck_grammar.proofs.OnceFacts.{take_next, whole_is, stand_once_more, none_once, never}
 use Rattle.deck_grammar.proofs.singles.repeated.Goals as goal
 use Rattle.deck_grammar.proofs.singles.repeated.Goals.{in-Some+else-has, in_default}
 
@@ -15,7 +16,7 @@ loop-i-preserved c =
     (stand_once_more (take c.loop-i.i c.args.all.now) x c.loop-i.invariant
     (elim c.match-single_of.branch [
       | in-Some+else-has w ↦ λ which e h. never (w.if-has.ensures.1
-          (subst (λ it. Contains (singles (take c.loop-i.i c.args.all.now)) it) (same_some which w.in-Some.which (sym e ∙ sym w.in-Some.ensures)) h))
+          (subst (λ it. Contains (singles (take c.loop-i.i c.args.all.now)) it) (same_Some which w.in-Some.which (sym e ∙ sym w.in-Some.ensures)) h))
       | in_default w ↦ λ which e h. cc (w.in_default.is, w.in_default.ensures, e)
     ]))
 

@@ -1,5 +1,5 @@
 use Rattle.std.proofs.Common.{sym, ap, ◌∙◌}
-use Rattle.deck_front.specs.Working.Tables.{parts_of}
+use Rattle.deck_stacks.specs.Working.Tables.{parts_of}
 use Rattle.deck_stacks.specs.Parts.{rule_of}
 use Rattle.deck_stacks.proofs.table.alternatives.Goals as goal
 

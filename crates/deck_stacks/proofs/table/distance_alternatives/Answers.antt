@@ -1,6 +1,6 @@
 use Rattle.std.proofs.Common.{sym, ap}
 use Rattle.deck_grammar.specs.Rules as r
-use Rattle.deck_front.specs.Working.Tables.{parts_of}
+use Rattle.deck_stacks.specs.Working.Tables.{parts_of}
 use Rattle.deck_stacks.proofs.table.distance_alternatives.Goals as goal
 
 pub returns-in-Internal : goal.returns-in-Internal

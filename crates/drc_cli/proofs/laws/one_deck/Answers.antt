@@ -1,5 +1,5 @@
-use Rattle.drc_cli.proofs.DeckLaws.{same_deck}
+use Rattle.drc_cli.proofs.OneText.{one_spelled}
 use Rattle.drc_cli.proofs.laws.one_deck.Goals as goal
 
 pub returns : goal.returns
-returns c = same_deck
+returns c = one_spelled (record { deck = c.one_text_answer.ensures.deck; refusal = c.one_text_answer.ensures.refusal; not_both = c.one_text_answer.ensures.not_both })

@@ -8,7 +8,7 @@ use Rattle.drc_cli.proofs.Ended.{ended_by_writing, ended_before_writing}
 use Rattle.drc_cli.proofs.top.check.Goals as goal
 
 pub returns-in-Ok : goal.returns-in-Ok
-returns-in-Ok g c = ended_by_writing (request_of c.args.request.now) g.F.Files.tells
+returns-in-Ok g c = ended_by_writing (check (request_of c.args.request.now)) g.F.Files.tells
     (world (g.F.Files.tally c.args.files.now) (g.F.Files.contents c.args.files.now))
     (world (g.F.Files.tally c.decide_check.new.files) (g.F.Files.contents c.decide_check.new.files))
     (world (g.F.Files.tally c.write_results.new.files) (g.F.Files.contents c.write_results.new.files))
@@ -20,4 +20,4 @@ returns-in-Err g c =
     let at = world (g.F.Files.tally c.decide_check.new.files) (g.F.Files.contents c.decide_check.new.files) in
     let new = world (g.F.Files.tally c.say_ending.new.files) (g.F.Files.contents c.say_ending.new.files) in
     subst (λ (answer : Status). CommandEnds (check (request_of c.args.request.now)) answer g.F.Files.tells old new) (sym c.status_of.ensures)
-    (ended_before_writing (request_of c.args.request.now) g.F.Files.tells old at new c.in-Err.ending c.say_ending.result c.in-Err.ensures c.say_ending.ensures)
+    (ended_before_writing (check (request_of c.args.request.now)) g.F.Files.tells old at new c.in-Err.ending c.say_ending.result c.in-Err.ensures c.say_ending.ensures)

@@ -6,7 +6,8 @@ use Rattle.gds_records.specs.RecordTypes.{code_of}
 use Rattle.gds_records.specs.Stream.{item_of}
 use Rattle.gds_library.specs.Fields.{name}
 use Rattle.gds_library.specs.Facts.{has_name, names_in}
-use Rattle.gds_library.proofs.NameSets.{bytes_apart, unpadded}
+use Rattle.list_facts.proofs.Texts.{bytes_apart}
+use Rattle.gds_library.proofs.NameSets.{unpadded}
 use Rattle.gds_library.proofs.Facts.{knows_name, knows_other}
 use Rattle.gds_library.proofs.builder.is_new.Goals as goal
 

@@ -1,7 +1,7 @@
 use Rattle.std.proofs.Common.{List, sym, subst, ◌∙◌, arith}
 use Rattle.std.proofs.lemmas.Bool.{false≢true}
 use Rattle.deck_grammar.specs.Rules.{Part}
-use Rattle.deck_front.specs.Stacks.{AreNext}
+use Rattle.deck_stacks.specs.Stacks.{AreNext}
 use Rattle.deck_refusal.proofs.Going.{wrong_so, passed, too_deep_so}
 use Rattle.deck_refusal.proofs.walk.Walk.go.Goals as goal
 

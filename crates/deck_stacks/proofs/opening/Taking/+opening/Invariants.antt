@@ -2,7 +2,7 @@
 use Rattle.std.proofs.Common.{◌≡◌, ◌+◌, ◌*◌, [], ◌++◌, drop, map}
 use Rattle.std.specs.Prelude.{if◌then◌else◌}
 use Rattle.std.specs.List.{flat_map}
-use Rattle.deck_front.specs.Working.Deriving.{derive}
+use Rattle.deck_stacks.specs.Working.Deriving.{derive}
 use Rattle.deck_stacks.specs.Parts.{part_of}
 use Rattle.deck_stacks.proofs.opening.Taking.+opening.Given as goal
 

@@ -1,5 +1,5 @@
 use Rattle.std.proofs.Common.{◌≡◌, ◌++◌, drop}
-use Rattle.deck_front.specs.Working.Deriving.{derive_all}
+use Rattle.deck_stacks.specs.Working.Deriving.{derive_all}
 use Rattle.deck_stacks.proofs.opening.Taking.derive_all.Given as goal
 
 abbrev pub invariant-loop-stack : goal.invariant-loop-stack

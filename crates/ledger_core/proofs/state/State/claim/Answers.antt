@@ -6,7 +6,7 @@ use Rattle.ledger_core.specs.Jobs.{setup_for}
 use Rattle.ledger_core.specs.Machines.{after}
 use Rattle.ledger_core.proofs.States.{may_claim}
 use Rattle.ledger_core.proofs.Alone.{never_waits, claims_lowest}
-use Rattle.ledger_history.proofs.Choices.{clash}
+use Rattle.list_facts.proofs.Tests.{clash}
 use Rattle.ledger_core.proofs.state.State.claim.Goals as goal
 
 pub take-requires-clause-enabled : goal.take-requires-clause-enabled
@@ -46,4 +46,4 @@ returns-in-None-clause-alone g c = λ q.
     let i = rw (← c.self.view_is) at q in
     never_waits (setup_for g.J.Job.wiring g.J.Job.cost_of g.J.Job.budget g.J.Job.workers) _ _ _ _
     (record { state = c.self.invariant; idle = i; runs = sym c.is_stopped.ensures ∙ c.if-is_stopped.false })
-    (λ k. clash (c.is_complete.ensures.1 k) c.if-is_complete.false) c.in-None.ensures.none
+    (λ k. clash _ (c.is_complete.ensures.1 k) c.if-is_complete.false) c.in-None.ensures.none

@@ -1,2 +1,0 @@
--- Working words: what a cursor keeps ready. No public clause cites them.
-pub mod Numbers

@@ -1,6 +1,0 @@
-mod Members
-mod Listing
-mod Derived
-mod Fitting
-pub mod Emptying
-pub mod Following

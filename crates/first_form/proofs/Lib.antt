@@ -1,0 +1,7 @@
+mod Values
+mod Layers
+mod Statements
+mod DigitSteps
+mod Numbers
+mod Choices
+pub mod FirstForms
