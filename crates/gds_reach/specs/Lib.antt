@@ -1,0 +1,4 @@
+pub mod References
+pub mod Facts
+pub mod Live
+pub mod Working

@@ -1,0 +1,5 @@
+-- Working words: of the loops and of the steps of this crate alone. No clause of a public function reaches them.
+pub mod Marks
+pub mod Spreading
+pub mod Depths
+pub mod Turning
