@@ -1,1 +1,3 @@
 mod Parities
+mod Meetings
+mod Passings

@@ -4,6 +4,7 @@ ghost use Rattle.std.specs.Prelude.{◌≡◌, ◌&&◌, ◌||◌, not as isnt, 
 ghost use Rattle.list_facts.specs.EitherOr.{exactly_one};
 ghost use Rattle.region_form.specs.Flips.{squares};
 
+use crate::both::flips_of_one;
 use crate::combine::combine;
 use crate::operation::Operation;
 use region_form::Region;
@@ -38,5 +39,8 @@ pub fn xor(first: &Region, second: &Region) -> Result<Region, AllocError>
     ensures { IfOk result (λ region. (x y : ℤ)
         → squares region x y ≡ exactly_one (squares first.now x y) (squares second.now x y)) }
 {
-    combine(first, second, Operation::Xor)
+    let flips = flips_of_one(first.alloc(), first.flips(), second.flips())?;
+    let mut region = Region::new(first.alloc());
+    region.replace_end(0, &flips)?;
+    Ok(region)
 }

@@ -7,12 +7,15 @@
 //!                  +-----+
 //! ```
 //!
-//! All four are the sweep over both lists of flips: the value of a column is whether it is in the first region and
-//! whether it is in the second.
+//! AND, OR and NOT are the sweep over both lists of flips: the value of a column is whether it is in the first region
+//! and whether it is in the second. XOR asks for no columns: its flips are those of both regions, where those that cancel
+//! are left out, and one walk over both lists finds them.
 #![tactic(auto)]
 
 mod booleans;
+mod both;
 mod combine;
+mod meeting;
 mod operation;
 #[cfg(test)]
 mod tests;

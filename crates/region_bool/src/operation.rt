@@ -6,7 +6,6 @@ pub(crate) enum Operation {
     And,
     Or,
     Not,
-    Xor,
 }
 
 impl Evaluator<u64> for Operation {
@@ -34,7 +33,6 @@ impl Evaluator<u64> for Operation {
             Operation::And => value == 3,
             Operation::Or => value != 0,
             Operation::Not => value == 1,
-            Operation::Xor => value == 1 || value == 2,
         }
     }
 

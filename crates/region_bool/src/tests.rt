@@ -1,10 +1,18 @@
-use crate::operation::Operation;
 use crate::{and, not, or, xor};
 use interval_row::{Row, Span};
 use region_form::{Builder, Region};
 use std::alloc::{AllocError, Global};
 use std::process::Abort;
 use std::test::Fail;
+
+/// The four calls.
+#[derive(Clone, Copy)]
+enum Boolean {
+    And,
+    Or,
+    Not,
+    Xor,
+}
 
 /// Two rectangles by x0, y0, x1 and y1, and the flips that are wanted of them, by y, x0 and x1.
 type Case<'a> = ([i64; 4], [i64; 4], &'a [[i64; 3]]);
@@ -25,12 +33,12 @@ fn rectangle(alloc: Global, sides: [i64; 4]) -> Result<Region, AllocError> {
     bar(alloc, Span { lo: x0, hi: x1 }, y0, y1)
 }
 
-fn call(operation: Operation, first: &Region, second: &Region) -> Result<Region, AllocError> {
-    match operation {
-        Operation::And => and(first, second),
-        Operation::Or => or(first, second),
-        Operation::Not => not(first, second),
-        Operation::Xor => xor(first, second),
+fn call(boolean: Boolean, first: &Region, second: &Region) -> Result<Region, AllocError> {
+    match boolean {
+        Boolean::And => and(first, second),
+        Boolean::Or => or(first, second),
+        Boolean::Not => not(first, second),
+        Boolean::Xor => xor(first, second),
     }
 }
 
@@ -41,15 +49,10 @@ fn compare(rt: &impl Abort, region: &Region, want: &[[i64; 3]]) {
     }
 }
 
-fn check(
-    rt: &impl Abort,
-    alloc: Global,
-    operation: Operation,
-    case: Case,
-) -> Result<(), AllocError> {
+fn check(rt: &impl Abort, alloc: Global, boolean: Boolean, case: Case) -> Result<(), AllocError> {
     let first = rectangle(alloc, case.0)?;
     let second = rectangle(alloc, case.1)?;
-    let region = call(operation, &first, &second)?;
+    let region = call(boolean, &first, &second)?;
     compare(rt, &region, case.2);
     Ok(())
 }
@@ -68,7 +71,7 @@ fn squares_of_both(rt: HostRuntime) -> Result<(), Fail> {
         ([0, 0, 6, 2], [2, -2, 4, 2], &[[0, 2, 4], [2, 2, 4]]),
     ];
     for case in cases {
-        check(&rt, rt.alloc(), Operation::And, case)?;
+        check(&rt, rt.alloc(), Boolean::And, case)?;
     }
     Ok(())
 }
@@ -100,7 +103,7 @@ fn squares_of_either(rt: HostRuntime) -> Result<(), Fail> {
         ),
     ];
     for case in cases {
-        check(&rt, rt.alloc(), Operation::Or, case)?;
+        check(&rt, rt.alloc(), Boolean::Or, case)?;
     }
     Ok(())
 }
@@ -128,7 +131,7 @@ fn squares_of_the_first_alone(rt: HostRuntime) -> Result<(), Fail> {
         ),
     ];
     for case in cases {
-        check(&rt, rt.alloc(), Operation::Not, case)?;
+        check(&rt, rt.alloc(), Boolean::Not, case)?;
     }
     Ok(())
 }
@@ -164,7 +167,7 @@ fn squares_of_one_alone(rt: HostRuntime) -> Result<(), Fail> {
         ),
     ];
     for case in cases {
-        check(&rt, rt.alloc(), Operation::Xor, case)?;
+        check(&rt, rt.alloc(), Boolean::Xor, case)?;
     }
     Ok(())
 }

@@ -1,9 +1,8 @@
 -- The tables of the booleans: two bits as a value of 0 to 3, the first for the first region.
 use Rattle.std.specs.Prelude.{◌≡◌, Bool, true, false, not, ◌&&◌, ◌||◌, ◌==◌, ℕ, zero, suc, ◌+◌, bit_xor, if◌then◌else◌, refl}
 use Rattle.std.proofs.Common.{ap, sym, ◌∙◌, arith}
-use Rattle.list_facts.specs.EitherOr.{exactly_one}
 use Rattle.region_bool.specs.declared.operation.Operation.{Operation}
-use Rattle.region_bool.specs.declared.operation.Operation.TheVariants.{And, Or, Not, Xor}
+use Rattle.region_bool.specs.declared.operation.Operation.TheVariants.{And, Or, Not}
 
 abbrev pub odd_of : ℕ → Bool
 odd_of zero = false
@@ -21,13 +20,11 @@ abbrev pub inside_of : Operation → ℕ → Bool
 inside_of And v = v == 3
 inside_of Or v = not (v == 0)
 inside_of Not v = v == 1
-inside_of Xor v = (v == 1) || (v == 2)
 
 abbrev pub holds : Operation → Bool → Bool → Bool
 holds And p q = p && q
 holds Or p q = p || q
 holds Not p q = p && not q
-holds Xor p q = exactly_one p q
 
 xor_first : (p q : Bool) → bit_xor (value_of p q) 1 ≡ value_of (not p) q
 xor_first true true = refl
@@ -54,7 +51,6 @@ pub none_inside : (e : Operation) → inside_of e 0 ≡ false
 none_inside And = refl
 none_inside Or = refl
 none_inside Not = refl
-none_inside Xor = refl
 
 pub by_table : (e : Operation) (p q : Bool) → inside_of e (value_of p q) ≡ holds e p q
 by_table And true true = refl
@@ -69,7 +65,3 @@ by_table Not true true = refl
 by_table Not true false = refl
 by_table Not false true = refl
 by_table Not false false = refl
-by_table Xor true true = refl
-by_table Xor true false = refl
-by_table Xor false true = refl
-by_table Xor false false = refl
