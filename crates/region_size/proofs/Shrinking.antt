@@ -1,15 +1,16 @@
 -- Shrinking by what is outside: a square stays where no square outside is near.
-use Rattle.std.proofs.Common.{◌≡◌, ◌↔◌, true, false, not, ◌&&◌, ◌||◌, ℤ, pos, ◌+ℤ◌, ◌-ℤ◌, ◌≤ℤ◌, refl, sym, subst, ap, ◌∙◌, arith}
+use Rattle.std.proofs.Common.{◌≡◌, ◌↔◌, Bool, true, false, not, ◌&&◌, ◌||◌, ℤ, pos, ◌+ℤ◌, ◌-ℤ◌, ◌≤ℤ◌, refl, sym, subst, ap, ◌∙◌, arith}
 use Rattle.std.proofs.lemmas.Int.{ints}
 use Rattle.std.proofs.lemmas.Bool.{and_from, not-true}
 use Rattle.std.specs.Cmp.{first_so, second_so}
 use Rattle.list_facts.specs.Between.{between}
+use Rattle.list_facts.specs.EitherOr.{exactly_one}
 use Rattle.list_facts.proofs.Tests.{between_true, by_test, clash, from_between, or_right_known, up_to_between}
 use Rattle.drc_geom.specs.Squares.{Squares, squares_of}
 use Rattle.drc_geom.specs.declared.rect.Rect.{Rect}
 use Rattle.region_size.specs.Sizes.{AllNear, HasNear, IsNear, IsWithin, LieWithin}
 
-near_itself : (d x y : ℤ) → pos 0 ≤ℤ d → IsNear d x y x y
+pub near_itself : (d x y : ℤ) → pos 0 ≤ℤ d → IsNear d x y x y
 near_itself d x y z = record { right = omega (arith, ints); left = omega (arith, ints); above = omega (arith, ints); below = omega (arith, ints) }
 
 module _ (set all outside near after : Squares) (d : ℤ) (z : pos 0 ≤ℤ d) (looked : (x y column row : ℤ) → set x y ≡ true → IsNear d x y column row → all column row ≡ true) (is_outside : (x y : ℤ) → outside x y ≡ (all x y && not (set x y))) (is_near : (x y : ℤ) → (near x y ≡ true) ↔ HasNear outside d x y) (is_after : (x y : ℤ) → after x y ≡ (set x y && not (near x y))) where
@@ -37,6 +38,15 @@ module _ (set all outside near after : Squares) (d : ℤ) (z : pos 0 ≤ℤ d) (
         λ column row i. stays x y column row (first_so (set x y) (not (near x y)) e) (not-true (near x y) (second_so (set x y) (not (near x y)) e)) i,
     λ a. is_after x y ∙ and_from _ _ (a x y (near_itself d x y z)) (ap not (goes x y a)),
   )
+
+of_part : (all set : Bool) → (set ≡ true → all ≡ true) → exactly_one all set ≡ (all && not set)
+of_part true set h = refl
+of_part false true h = sym (h refl)
+of_part false false h = refl
+
+-- exactly one of a set and all of which it is a part has what the set lacks
+pub lacking : (all set outside : Squares) → ((x y : ℤ) → set x y ≡ true → all x y ≡ true) → ((x y : ℤ) → outside x y ≡ exactly_one (all x y) (set x y)) → (x y : ℤ) → outside x y ≡ (all x y && not (set x y))
+lacking all set outside h e x y = e x y ∙ of_part (all x y) (set x y) (h x y)
 
 -- a frame that has what is near to what lies within a limit
 pub frame_has : (f : Rect) (limit d x y column row : ℤ) → f.x0 ≤ℤ ((pos 0 -ℤ limit) -ℤ d) → f.y0 ≤ℤ ((pos 0 -ℤ limit) -ℤ d) → (limit +ℤ d) ≤ℤ f.x1 → (limit +ℤ d) ≤ℤ f.y1 → IsWithin limit x y → IsNear d x y column row → (squares_of f column row || false) ≡ true

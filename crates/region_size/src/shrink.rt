@@ -8,7 +8,7 @@ ghost use Rattle.region_size.specs.Working.Widths.{frame};
 
 use crate::grow::grow;
 use drc_geom::Rect;
-use region_bool::not;
+use region_bool::{not, xor};
 use region_form::Region;
 use region_merge::merge;
 use std::alloc::{AllocError, Global};
@@ -24,8 +24,9 @@ pub(crate) fn shrink(region: &Region, d: i64) -> Result<Region, AllocError>
     ensures { IfOk result (λ shrunk. (x y : ℤ)
         → (squares shrunk x y ≡ true) ↔ AllNear (squares region.now) d x y) }
 {
+    // The region lies in the frame, so exactly one of both is what is outside.
     let all = whole(region.alloc())?;
-    let outside = not(&all, region)?;
+    let outside = xor(&all, region)?;
     let near = grow(&outside, d)?;
     let shrunk = not(region, &near)?;
     Ok(shrunk)
