@@ -1,0 +1,5 @@
+mod Kept
+mod Headings
+mod Paths
+mod Areas
+mod Covered
