@@ -1,270 +1,312 @@
--- The canonical text of layers is tokens.
-use Rattle.std.proofs.Common.{◌≡◌, ℕ, Bool, true, false, ◌&&◌, List, ◌∷◌, ◌++◌, map, Option, Some, None, refl, sym, subst, ◌∙◌}
+-- The canonical text of layers is spelled by the grammar as they are, but for places.
+use Rattle.std.proofs.Common.{◌≡◌, ℕ, suc, max, Bool, true, false, ◌&&◌, List, [], ◌∷◌, ◌++◌, map, Option, Some, None, refl, sym, ap, subst, ◌∙◌, append_assoc}
 use Rattle.std.specs.Prelude.{codes}
-use Rattle.std.specs.List.{AllByRecursion}
-use Rattle.std.specs.Option.{option_map_or}
-use Rattle.std.proofs.lemmas.Bool.{and_parts}
+use Rattle.std.specs.List.{concat, AllByRecursion}
+use Rattle.deck_tree.specs.declared.name_at.NameAt.{NameAt}
+use Rattle.deck_tree.specs.declared.value.Value.{Value}
+use Rattle.deck_tree.specs.declared.limits.Limits.{Limits}
 use Rattle.deck_tree.specs.declared.infix.Infix.{Infix}
 use Rattle.deck_tree.specs.declared.infix.Infix.TheVariants as infixes
 use Rattle.deck_tree.specs.declared.infix.Relation.{Relation}
-use Rattle.deck_tree.specs.declared.infix.Relation.TheVariants as relation
+use Rattle.deck_tree.specs.declared.infix.Relation.TheVariants as relations
 use Rattle.deck_tree.specs.declared.infix.EdgeRelation.{EdgeRelation}
-use Rattle.deck_tree.specs.declared.infix.EdgeRelation.TheVariants as edge_relation
+use Rattle.deck_tree.specs.declared.infix.EdgeRelation.TheVariants as edge_relations
 use Rattle.deck_tree.specs.declared.distance.DistanceKind.{DistanceKind}
-use Rattle.deck_tree.specs.declared.distance.DistanceKind.TheVariants as distance_kind
-use Rattle.deck_tree.specs.declared.distance.Input.{Input}
-use Rattle.deck_tree.specs.declared.distance.Input.TheVariants as input
-use Rattle.deck_tree.specs.declared.distance.Metric.{Metric}
-use Rattle.deck_tree.specs.declared.distance.Metric.TheVariants as metric
-use Rattle.deck_tree.specs.declared.distance.Gap.{Gap}
-use Rattle.deck_tree.specs.declared.distance.Gap.TheVariants as gap
-use Rattle.deck_tree.specs.declared.distance.Options.{Options}
+use Rattle.deck_tree.specs.declared.distance.DistanceKind.TheVariants as distance_kinds
 use Rattle.deck_tree.specs.declared.distance.Distance.{Distance}
-use Rattle.deck_tree.specs.declared.value.Value.{Value}
+use Rattle.deck_tree.specs.declared.distance.Input.{Input}
+use Rattle.deck_tree.specs.declared.distance.Options.{Options}
+use Rattle.deck_tree.specs.declared.limits.Bound.{Bound}
 use Rattle.deck_tree.specs.declared.layer.Turn.{Turn}
-use Rattle.deck_tree.specs.declared.layer.Turn.TheVariants as turn
+use Rattle.deck_tree.specs.declared.layer.Turn.TheVariants as turns
 use Rattle.deck_tree.specs.declared.layer.ExpandSide.{ExpandSide}
-use Rattle.deck_tree.specs.declared.layer.ExpandSide.TheVariants as side
+use Rattle.deck_tree.specs.declared.layer.ExpandSide.TheVariants as sides
 use Rattle.deck_tree.specs.declared.layer.Prefix.{Prefix, roll-Prefix}
+use Rattle.deck_tree.specs.declared.layer.Prefix.TheVariants as prefixes
 use Rattle.deck_tree.specs.declared.layer.Prefix.TheOpen.{Prefix-F, Primary-F, Term-F, Layer-F, Operation-F}
 use Rattle.deck_tree.specs.declared.layer.Prefix.TheFolds.{fold-Prefix, fold-Primary, fold-Term, fold-Operation, fold-roll-Prefix, fold-roll-Primary, fold-roll-Term, fold-roll-Layer, fold-roll-Operation, ind-Layer, map-Prefix, map-Primary, map-Term}
 use Rattle.deck_tree.specs.declared.layer.Primary.{Primary, roll-Primary}
+use Rattle.deck_tree.specs.declared.layer.Primary.TheVariants as primaries
 use Rattle.deck_tree.specs.declared.layer.Term.{Term, roll-Term}
+use Rattle.deck_tree.specs.declared.layer.Term.TheVariants as terms
 use Rattle.deck_tree.specs.declared.layer.Layer.{Layer, roll-Layer}
 use Rattle.deck_tree.specs.declared.layer.Operation.{Operation, roll-Operation}
-use Rattle.deck_tree.specs.WellFormed.{all_hold, is_formed_value, is_formed_limits, is_formed_input, is_formed_distance, is_formed_prefix, is_formed_primary, is_formed_term, is_formed_layer}
+use Rattle.deck_tree.specs.WellFormed.{all_hold, is_formed_value, is_formed_limits, is_formed_distance, is_formed_prefix, is_formed_primary, is_formed_term, is_formed_layer, deepest, depth_of_value, depth_of_limits, depth_of_distance, depth_of_prefix, depth_of_primary, depth_of_term, depth_of_layer}
+use Rattle.deck_tree.specs.Plain.{plain_name, plain_value, plain_limits, plain_distance, plain_prefix, plain_primary, plain_term, plain_operation, plain_layer}
+use Rattle.deck_grammar.specs.declared.kind.Kind.TheVariants as kinds
+use Rattle.deck_grammar.specs.Rules as r
+use Rattle.deck_grammar.specs.Alternatives as a
 use Rattle.deck_printer.specs.Values.{Text, value_text, bound_text, limits_text}
-use Rattle.deck_printer.specs.Layers.{relation_text, edge_relation_text, not_text, infix_text, turn_text, side_text, expand_words, distance_kind_text, input_text, second_text, abut_text, singular_text, metric_text, gap_text, region_text, options_text, distance_text, prefix_step, primary_step, term_step, operation_step, layer_step, prefix_text, primary_text, term_text, operation_text, layer_text}
-use Rattle.deck_round.proofs.Lexing.{Good, Tail, good_then, tail_nil, tail_then, tail_space}
-use Rattle.deck_round.proofs.Pieces.{good_word, good_sign, good_double, in_brackets, in_squares}
-use Rattle.deck_round.proofs.Values.{good_name, each, tails, two_then, sign_then, value_good, bound_good, limits_good}
+use Rattle.deck_printer.specs.Layers.{relation_text, edge_relation_text, infix_text, turn_text, side_text, expand_words, input_text, second_text, options_text, distance_text, prefix_step, primary_step, term_step, operation_step, layer_step, prefix_text, primary_text, term_text, operation_text, layer_text}
+use Rattle.deck_round.proofs.Levels.{Fits, unrolled, both_fit, inside, may_open}
+use Rattle.deck_round.proofs.Lexing.{Closed, Before}
+use Rattle.deck_round.proofs.Pieces.{One}
+use Rattle.deck_round.proofs.Parts.{Ruled, nothing, blank_then, token_then, rule_then, last_token, last_rule, in_round, token_space, rule_space}
+use Rattle.deck_round.proofs.Keywords as word
+use Rattle.deck_round.proofs.Marks.{name_one}
+use Rattle.deck_round.proofs.Places.{each}
+use Rattle.deck_round.proofs.PlacesOfLayers.{placeless_prefix, placeless_primary, placeless_term, placeless_operation, prefix_bare, primary_bare, term_bare}
+use Rattle.deck_round.proofs.AlikeValues.{alike}
+use Rattle.deck_round.proofs.Values.{chain, value_spelled}
+use Rattle.deck_round.proofs.Bounds.{limits_spelled, limits_before}
+use Rattle.deck_round.proofs.Distances.{BehindWord, distance_spelled}
+use Rattle.deck_round.proofs.Infixes.{infix_spelled, turn_spelled, turn_before, inside_spelled, outside_spelled}
+use Rattle.deck_round.proofs.AlikeLayers.{prefix_at, term_at, distance_at, name_alike, bracketed_alike, copy_alike, rectangle_alike, area_alike, length_alike, size_alike, angle_alike, expand_alike, operation_alike, layer_alike}
 
--- ---- Words
+-- ---- The tests of each part, and what is shown of it
 
-relation_good : (which : Relation) → Good (relation_text which)
-relation_good relation.Inside = good_word 73 (codes "NSIDE") refl refl
-relation_good relation.Outside = good_word 79 (codes "UTSIDE") refl refl
-relation_good relation.Interact = good_word 73 (codes "NTERACT") refl refl
-relation_good relation.Touch = good_word 84 (codes "OUCH") refl refl
-relation_good relation.Cut = good_word 67 (codes "UT") refl refl
-relation_good relation.Enclose = good_word 69 (codes "NCLOSE") refl refl
-
-edge_tail : Tail (32 ∷ codes "EDGE")
-edge_tail = tail_space (codes "EDGE") (good_word 69 (codes "DGE") refl refl)
-
-edge_relation_good : (which : EdgeRelation) → Good (edge_relation_text which)
-edge_relation_good edge_relation.Inside = good_then (codes "INSIDE") (32 ∷ codes "EDGE") (good_word 73 (codes "NSIDE") refl refl) edge_tail
-edge_relation_good edge_relation.Outside = good_then (codes "OUTSIDE") (32 ∷ codes "EDGE") (good_word 79 (codes "UTSIDE") refl refl) edge_tail
-edge_relation_good edge_relation.Coincident = good_then (codes "COINCIDENT") (32 ∷ codes "EDGE") (good_word 67 (codes "OINCIDENT") refl refl) edge_tail
-
-not_good : (negated : Bool) (w : List ℕ) → Good w → Good (not_text negated ++ w)
-not_good true w good = good_then (codes "NOT") (32 ∷ w) (good_word 78 (codes "OT") refl refl) (tail_space w good)
-not_good false w good = good
-
-infix_good : (operator : Infix) → Good (infix_text operator)
-infix_good infixes.And = good_word 65 (codes "ND") refl refl
-infix_good infixes.Or = good_word 79 (codes "R") refl refl
-infix_good infixes.Not = good_word 78 (codes "OT") refl refl
-infix_good infixes.Xor = good_word 88 (codes "OR") refl refl
-infix_good infixes.OrEdge = good_then (codes "OR") (32 ∷ codes "EDGE") (good_word 79 (codes "R") refl refl) edge_tail
-infix_good (infixes.Relation negated which) = not_good negated (relation_text which) (relation_good which)
-infix_good (infixes.EdgeRelation negated which) = not_good negated (edge_relation_text which) (edge_relation_good which)
-
-turn_tail : (turning : Option Turn) → Tail (turn_text turning)
-turn_tail None = tail_nil
-turn_tail (Some turn.OverUnder) = tail_space (codes "OVERUNDER") (good_word 79 (codes "VERUNDER") refl refl)
-turn_tail (Some turn.UnderOver) = tail_space (codes "UNDEROVER") (good_word 85 (codes "NDEROVER") refl refl)
-
-by_then : (w : List ℕ) → Good w → Good (codes "BY " ++ w)
-by_then w good = good_then (codes "BY") (32 ∷ w) (good_word 66 (codes "Y") refl refl) (tail_space w good)
-
-side_then : (to : ExpandSide) (w : List ℕ) → Good w → Tail (side_text to ++ w)
-side_then side.Inside w good = tail_space (codes "INSIDE BY " ++ w) (good_then (codes "INSIDE") (codes " BY " ++ w) (good_word 73 (codes "NSIDE") refl refl) (tail_space (codes "BY " ++ w) (by_then w good)))
-side_then side.Outside w good = tail_space (codes "OUTSIDE BY " ++ w) (good_then (codes "OUTSIDE") (codes " BY " ++ w) (good_word 79 (codes "UTSIDE") refl refl) (tail_space (codes "BY " ++ w) (by_then w good)))
-
--- ---- Checks of distances
-
-kind_good : (kind : DistanceKind) → Good (distance_kind_text kind)
-kind_good distance_kind.Internal = good_word 73 (codes "NT") refl refl
-kind_good distance_kind.External = good_word 69 (codes "XT") refl refl
-kind_good distance_kind.Enclosure = good_word 69 (codes "NC") refl refl
-
-input_tail : (those : Input) → is_formed_input those ≡ true → Tail (input_text those)
-input_tail (input.Plain name) formed = tail_space name.name (good_name name.name formed)
-input_tail (input.Bracketed at name) formed = tail_space _ (in_squares name.name (good_name name.name formed))
-
-second_tail : (second : Option Input) → option_map_or is_formed_input second true ≡ true → Tail (second_text second)
-second_tail None formed = tail_nil
-second_tail (Some those) formed = input_tail those formed
-
-abut_tail : (value : Option Value) → option_map_or is_formed_value value true ≡ true → Tail (abut_text value)
-abut_tail None formed = tail_nil
-abut_tail (Some value) formed =
-    tail_space _ (good_then (codes "ABUT") (codes " < " ++ value_text value) (good_word 65 (codes "BUT") refl refl) (sign_then 60 (value_text value) (good_sign 60 (record { is = refl; kind = refl; no_blank = refl })) (value_good value formed)))
-
-singular_tail : (singular : Bool) → Tail (singular_text singular)
-singular_tail true = tail_space (codes "SINGULAR") (good_word 83 (codes "INGULAR") refl refl)
-singular_tail false = tail_nil
-
-metric_tail : (which : Option Metric) → Tail (metric_text which)
-metric_tail None = tail_nil
-metric_tail (Some metric.Opposite) = tail_space (codes "OPPOSITE") (good_word 79 (codes "PPOSITE") refl refl)
-metric_tail (Some metric.Square) = tail_space (codes "SQUARE") (good_word 83 (codes "QUARE") refl refl)
-
-gap_tail : (which : Option Gap) → Tail (gap_text which)
-gap_tail None = tail_nil
-gap_tail (Some gap.Notch) = tail_space (codes "NOTCH") (good_word 78 (codes "OTCH") refl refl)
-gap_tail (Some gap.Space) = tail_space (codes "SPACE") (good_word 83 (codes "PACE") refl refl)
-
-region_tail : (region : Bool) → Tail (region_text region)
-region_tail true = tail_space (codes "REGION") (good_word 82 (codes "EGION") refl refl)
-region_tail false = tail_nil
-
-options_tail : (those : Options) → option_map_or is_formed_value those.abut true ≡ true → Tail (options_text those)
-options_tail those formed =
-    tail_then (abut_text those.abut) _ (abut_tail those.abut formed)
-    (tail_then (singular_text those.singular) _ (singular_tail those.singular)
-    (tail_then (metric_text those.metric) _ (metric_tail those.metric) (tail_then (gap_text those.gap) (region_text those.region) (gap_tail those.gap) (region_tail those.region))))
-
-distance_good : (those : Distance) → is_formed_distance those ≡ true → Good (distance_text those)
-distance_good those formed =
-    let a = and_parts _ _ formed in
-    let b = and_parts _ _ a.0 in
-    let c = and_parts _ _ b.0 in
-    let d = and_parts _ _ c.0 in
-    let e = and_parts _ _ d.0 in
-    let f = and_parts _ _ e.0 in
-    good_then (distance_kind_text those.kind) _ (kind_good those.kind)
-    (tail_then (input_text those.first) _ (input_tail those.first f.0)
-    (tail_then (second_text those.second) _ (second_tail those.second f.1)
-    (tail_then (bound_text those.bound) (options_text those.options) (bound_good those.bound e.1) (options_tail those.options d.1))))
-
--- ---- Layers: tests and texts of each part
-
-abbrev formed_prefix : Prefix → Bool
+abbrev pub formed_prefix : Prefix → Bool
 formed_prefix = fold-Prefix Bool Bool Bool Bool Bool is_formed_prefix is_formed_primary is_formed_term (λ layer. layer.first && all_hold layer.more) (λ operation. operation.right)
 
-abbrev formed_primary : Primary → Bool
+abbrev pub formed_primary : Primary → Bool
 formed_primary = fold-Primary Bool Bool Bool Bool Bool is_formed_prefix is_formed_primary is_formed_term (λ layer. layer.first && all_hold layer.more) (λ operation. operation.right)
 
-abbrev formed_term : Term → Bool
+abbrev pub formed_term : Term → Bool
 formed_term = fold-Term Bool Bool Bool Bool Bool is_formed_prefix is_formed_primary is_formed_term (λ layer. layer.first && all_hold layer.more) (λ operation. operation.right)
 
-abbrev formed_operation : Operation → Bool
+abbrev pub formed_operation : Operation → Bool
 formed_operation = fold-Operation Bool Bool Bool Bool Bool is_formed_prefix is_formed_primary is_formed_term (λ layer. layer.first && all_hold layer.more) (λ operation. operation.right)
 
-abbrev P-prefix : Prefix → Type 0
-P-prefix x = formed_prefix x ≡ true → Good (prefix_text x)
+abbrev pub depth_prefix : Prefix → ℕ
+depth_prefix = fold-Prefix ℕ ℕ ℕ ℕ ℕ depth_of_prefix depth_of_primary depth_of_term (λ layer. max layer.first (deepest layer.more)) (λ operation. operation.right)
 
-abbrev P-primary : Primary → Type 0
-P-primary x = formed_primary x ≡ true → Good (primary_text x)
+abbrev pub depth_primary : Primary → ℕ
+depth_primary = fold-Primary ℕ ℕ ℕ ℕ ℕ depth_of_prefix depth_of_primary depth_of_term (λ layer. max layer.first (deepest layer.more)) (λ operation. operation.right)
 
-abbrev P-term : Term → Type 0
-P-term x = formed_term x ≡ true → Good (term_text x)
+abbrev pub depth_term : Term → ℕ
+depth_term = fold-Term ℕ ℕ ℕ ℕ ℕ depth_of_prefix depth_of_primary depth_of_term (λ layer. max layer.first (deepest layer.more)) (λ operation. operation.right)
 
-abbrev P-layer : Layer → Type 0
-P-layer x = is_formed_layer x ≡ true → Good (layer_text x)
+abbrev pub depth_operation : Operation → ℕ
+depth_operation = fold-Operation ℕ ℕ ℕ ℕ ℕ depth_of_prefix depth_of_primary depth_of_term (λ layer. max layer.first (deepest layer.more)) (λ operation. operation.right)
 
-abbrev P-operation : Operation → Type 0
-P-operation x = formed_operation x ≡ true → Tail (operation_text x)
+-- the text is operations, and can stand behind a layer
+abbrev Operations : ℕ → List ℕ → List Operation → Type 0
+Operations n w more = Ruled Closed n r.operations w (λ read. map placeless_operation read ≡ map placeless_operation more) × Before Closed Closed w
 
-abbrev FormedPrefix : Prefix-F Prefix Primary Term Layer Operation → Type 0
-FormedPrefix x = is_formed_prefix (map-Prefix Prefix Primary Term Layer Operation Bool Bool Bool Bool Bool formed_prefix formed_primary formed_term is_formed_layer formed_operation x) ≡ true
+no_operations : (n : ℕ) → Operations n [] []
+no_operations n = (record { alternative = a.no_operation; spelled = nothing refl }, λ rest e. e)
+
+abbrev PrefixSpelled : ℕ → List ℕ → Prefix → Type 0
+PrefixSpelled n w x = (place : ℕ) → Ruled Closed n r.primary w (λ read. placeless_primary read ≡ placeless_primary (roll-Primary (Primary-F.Prefix place x)))
+
+abbrev PrimarySpelled : ℕ → List ℕ → Primary → Type 0
+PrimarySpelled n w x = Ruled Closed n r.primary w (λ read. placeless_primary read ≡ placeless_primary x)
+
+-- a name or a layer in brackets stands alone, or behind a word
+abbrev TermSpelled : ℕ → List ℕ → Term → Type 0
+TermSpelled n w x = Ruled Closed n r.term w (λ read. placeless_term read ≡ placeless_term x) × Ruled Closed n r.primary w (λ read. placeless_primary read ≡ placeless_primary (roll-Primary (Primary-F.Term x)))
+
+abbrev LayerSpelled : ℕ → List ℕ → Layer → Type 0
+LayerSpelled n w x = Ruled Closed n r.layer w (λ read. plain_layer read ≡ plain_layer x)
+
+abbrev S-prefix : Prefix → Type 0
+S-prefix x = (n : ℕ) → Fits (formed_prefix x) (depth_prefix x) n → PrefixSpelled n (prefix_text x) x
+
+abbrev S-primary : Primary → Type 0
+S-primary x = (n : ℕ) → Fits (formed_primary x) (depth_primary x) n → PrimarySpelled n (primary_text x) x
+
+abbrev S-term : Term → Type 0
+S-term x = (n : ℕ) → Fits (formed_term x) (depth_term x) n → TermSpelled n (term_text x) x
+
+abbrev S-layer : Layer → Type 0
+S-layer x = (n : ℕ) → Fits (is_formed_layer x) (depth_of_layer x) n → LayerSpelled n (layer_text x) x
+
+abbrev S-operation : Operation → Type 0
+S-operation x = (n : ℕ) → Fits (formed_operation x) (depth_operation x) n → (w : List ℕ) (more : List Operation) → Operations n w more → Operations n (operation_text x ++ w) (x ∷ more)
+
+-- ---- Operations on one layer
+
+abbrev PrefixFits : ℕ → Prefix-F Prefix Primary Term Layer Operation → Type 0
+PrefixFits n x = Fits (is_formed_prefix (map-Prefix Prefix Primary Term Layer Operation Bool Bool Bool Bool Bool formed_prefix formed_primary formed_term is_formed_layer formed_operation x)) (depth_of_prefix (map-Prefix Prefix Primary Term Layer Operation ℕ ℕ ℕ ℕ ℕ depth_prefix depth_primary depth_term depth_of_layer depth_operation x)) n
 
 abbrev PrefixHolds : Prefix-F Prefix Primary Term Layer Operation → Type 0
-PrefixHolds (Prefix-F.Copy term) = P-term term
-PrefixHolds (Prefix-F.Rectangle term) = P-term term
-PrefixHolds (Prefix-F.Area term bounds) = P-term term
-PrefixHolds (Prefix-F.Length term bounds) = P-term term
-PrefixHolds (Prefix-F.Size term value turning) = P-term term
-PrefixHolds (Prefix-F.Angle term value) = P-term term
-PrefixHolds (Prefix-F.Expand term to value) = P-term term
+PrefixHolds (Prefix-F.Copy term) = S-term term
+PrefixHolds (Prefix-F.Rectangle term) = S-term term
+PrefixHolds (Prefix-F.Area term bounds) = S-term term
+PrefixHolds (Prefix-F.Length term bounds) = S-term term
+PrefixHolds (Prefix-F.Size term value turning) = S-term term
+PrefixHolds (Prefix-F.Angle term value) = S-term term
+PrefixHolds (Prefix-F.Expand term to value) = S-term term
 
-prefix_by : (x : Prefix-F Prefix Primary Term Layer Operation) → PrefixHolds x → FormedPrefix x
-    → Good (prefix_step (map-Prefix Prefix Primary Term Layer Operation Text Text Text Text Text prefix_text primary_text term_text layer_text operation_text x))
+prefix_by : (n : ℕ) (x : Prefix-F Prefix Primary Term Layer Operation) → PrefixHolds x → PrefixFits n x → PrefixSpelled n (prefix_step (map-Prefix Prefix Primary Term Layer Operation Text Text Text Text Text prefix_text primary_text term_text layer_text operation_text x)) (roll-Prefix x)
 unfolding expand_words
-prefix_by (Prefix-F.Copy term) holds formed = good_then (codes "COPY") (32 ∷ term_text term) (good_word 67 (codes "OPY") refl refl) (tail_space (term_text term) (holds formed))
-prefix_by (Prefix-F.Rectangle term) holds formed = good_then (codes "RECTANGLE") (32 ∷ term_text term) (good_word 82 (codes "ECTANGLE") refl refl) (tail_space (term_text term) (holds formed))
-prefix_by (Prefix-F.Area term bounds) holds formed =
-    let both = and_parts (formed_term term) (is_formed_limits bounds) formed in
-    good_then (codes "AREA") (32 ∷ (term_text term ++ limits_text bounds)) (good_word 65 (codes "REA") refl refl) (tail_space _ (good_then (term_text term) (limits_text bounds) (holds both.0) (limits_good bounds both.1)))
-prefix_by (Prefix-F.Length term bounds) holds formed =
-    let both = and_parts (formed_term term) (is_formed_limits bounds) formed in
-    good_then (codes "LENGTH") (32 ∷ (term_text term ++ limits_text bounds)) (good_word 76 (codes "ENGTH") refl refl) (tail_space _ (good_then (term_text term) (limits_text bounds) (holds both.0) (limits_good bounds both.1)))
-prefix_by (Prefix-F.Size term value turning) holds formed =
-    let both = and_parts (formed_term term) (is_formed_value value) formed in
-    let sized : Good (value_text value ++ turn_text turning) = good_then (value_text value) (turn_text turning) (value_good value both.1) (turn_tail turning) in
-    let by : Tail (codes " BY " ++ (value_text value ++ turn_text turning)) = tail_space _ (by_then _ sized) in
-    good_then (codes "SIZE") (32 ∷ (term_text term ++ (codes " BY " ++ (value_text value ++ turn_text turning)))) (good_word 83 (codes "IZE") refl refl) (tail_space _ (good_then (term_text term) _ (holds both.0) by))
-prefix_by (Prefix-F.Angle term value) holds formed =
-    let both = and_parts (formed_term term) (is_formed_value value) formed in
-    let equal : Tail (codes " == " ++ value_text value) = two_then 61 (value_text value) (good_double 61 refl refl refl) (value_good value both.1) in
-    good_then (codes "ANGLE") (32 ∷ (term_text term ++ (codes " == " ++ value_text value))) (good_word 65 (codes "NGLE") refl refl) (tail_space _ (good_then (term_text term) _ (holds both.0) equal))
-prefix_by (Prefix-F.Expand term to value) holds formed =
-    let both = and_parts (formed_term term) (is_formed_value value) formed in
-    let reach : Tail (side_text to ++ value_text value) = side_then to (value_text value) (value_good value both.1) in
-    let rest : Good (term_text term ++ (side_text to ++ value_text value)) = good_then (term_text term) _ (holds both.0) reach in
-    good_then (codes "EXPAND") (codes " EDGE " ++ (term_text term ++ (side_text to ++ value_text value))) (good_word 69 (codes "XPAND") refl refl)
-    (tail_space _ (good_then (codes "EDGE") (32 ∷ (term_text term ++ (side_text to ++ value_text value))) (good_word 69 (codes "DGE") refl refl) (tail_space _ rest)))
+prefix_by n (Prefix-F.Copy term) holds fits place = record {
+  alternative = a.copy;
+  spelled = token_space (codes "COPY") (term_text term) word.copy (λ at.
+      last_rule (term_text term) (holds n fits).0 (λ t same. prefix_at at place (prefixes.Copy t) _ (copy_alike t term same)));
+}
+prefix_by n (Prefix-F.Rectangle term) holds fits place = record {
+  alternative = a.rectangle;
+  spelled = token_space (codes "RECTANGLE") (term_text term) word.rectangle (λ at.
+      last_rule (term_text term) (holds n fits).0 (λ t same. prefix_at at place (prefixes.Rectangle t) _ (rectangle_alike t term same)));
+}
+prefix_by n (Prefix-F.Area term bounds) holds fits place =
+    let both = both_fit (formed_term term) (is_formed_limits bounds) (depth_term term) (depth_of_limits bounds) n fits in
+    record {
+      alternative = a.area;
+      spelled = token_space (codes "AREA") (term_text term ++ limits_text bounds) word.area (λ at.
+          rule_then (term_text term) (limits_text bounds) (holds n both.0).0 (limits_before bounds) (λ t same.
+          last_rule (limits_text bounds) (limits_spelled n bounds both.1) (λ b all. prefix_at at place (prefixes.Area t b) _ (area_alike t term b bounds same all))));
+    }
+prefix_by n (Prefix-F.Length term bounds) holds fits place =
+    let both = both_fit (formed_term term) (is_formed_limits bounds) (depth_term term) (depth_of_limits bounds) n fits in
+    record {
+      alternative = a.length;
+      spelled = token_space (codes "LENGTH") (term_text term ++ limits_text bounds) word.length (λ at.
+          rule_then (term_text term) (limits_text bounds) (holds n both.0).0 (limits_before bounds) (λ t same.
+          last_rule (limits_text bounds) (limits_spelled n bounds both.1) (λ b all. prefix_at at place (prefixes.Length t b) _ (length_alike t term b bounds same all))));
+    }
+prefix_by n (Prefix-F.Size term value turning) holds fits place =
+    let both = both_fit (formed_term term) (is_formed_value value) (depth_term term) (depth_of_value value) n fits in
+    record {
+      alternative = a.size;
+      spelled = token_space (codes "SIZE") (term_text term ++ (codes " BY " ++ (value_text value ++ turn_text turning))) word.size (λ at.
+          rule_space (term_text term) (codes "BY " ++ (value_text value ++ turn_text turning)) (holds n both.0).0 (λ t same.
+          token_space (codes "BY") (value_text value ++ turn_text turning) word.by (λ by.
+          rule_then (value_text value) (turn_text turning) (value_spelled value n both.1) (turn_before turning) (λ v all.
+          last_rule (turn_text turning) (turn_spelled n turning) (λ w turned. prefix_at at place (prefixes.Size t v w) _ (size_alike t term v value w turning same all turned))))));
+    }
+prefix_by n (Prefix-F.Angle term value) holds fits place =
+    let both = both_fit (formed_term term) (is_formed_value value) (depth_term term) (depth_of_value value) n fits in
+    record {
+      alternative = a.angle;
+      spelled = token_space (codes "ANGLE") (term_text term ++ (codes " == " ++ value_text value)) word.angle (λ at.
+          rule_space (term_text term) (codes "== " ++ value_text value) (holds n both.0).0 (λ t same.
+          token_space (codes "==") (value_text value) word.equal_to (λ equal.
+          last_rule (value_text value) (value_spelled value n both.1) (λ v all. prefix_at at place (prefixes.Angle t v) _ (angle_alike t term v value same all)))));
+    }
+prefix_by n (Prefix-F.Expand term sides.Inside value) holds fits place =
+    let both = both_fit (formed_term term) (is_formed_value value) (depth_term term) (depth_of_value value) n fits in
+    record {
+      alternative = a.expand;
+      spelled = token_space (codes "EXPAND") (codes "EDGE " ++ (term_text term ++ (codes " INSIDE BY " ++ value_text value))) word.expand (λ at.
+          token_space (codes "EDGE") (term_text term ++ (codes " INSIDE BY " ++ value_text value)) word.edge (λ edge.
+          rule_space (term_text term) (codes "INSIDE BY " ++ value_text value) (holds n both.0).0 (λ t same.
+          rule_space (codes "INSIDE") (codes "BY " ++ value_text value) (inside_spelled n) (λ to side.
+          token_space (codes "BY") (value_text value) word.by (λ by.
+          last_rule (value_text value) (value_spelled value n both.1) (λ v all. prefix_at at place (prefixes.Expand t to v) _ (expand_alike t term to sides.Inside v value same side all)))))));
+    }
+prefix_by n (Prefix-F.Expand term sides.Outside value) holds fits place =
+    let both = both_fit (formed_term term) (is_formed_value value) (depth_term term) (depth_of_value value) n fits in
+    record {
+      alternative = a.expand;
+      spelled = token_space (codes "EXPAND") (codes "EDGE " ++ (term_text term ++ (codes " OUTSIDE BY " ++ value_text value))) word.expand (λ at.
+          token_space (codes "EDGE") (term_text term ++ (codes " OUTSIDE BY " ++ value_text value)) word.edge (λ edge.
+          rule_space (term_text term) (codes "OUTSIDE BY " ++ value_text value) (holds n both.0).0 (λ t same.
+          rule_space (codes "OUTSIDE") (codes "BY " ++ value_text value) (outside_spelled n) (λ to side.
+          token_space (codes "BY") (value_text value) word.by (λ by.
+          last_rule (value_text value) (value_spelled value n both.1) (λ v all. prefix_at at place (prefixes.Expand t to v) _ (expand_alike t term to sides.Outside v value same side all)))))));
+    }
 
-prefix_case : (x : Prefix-F Prefix Primary Term Layer Operation) → PrefixHolds x → P-prefix (roll-Prefix x)
-prefix_case x holds formed =
-    let is : FormedPrefix x = sym (fold-roll-Prefix Bool Bool Bool Bool Bool is_formed_prefix is_formed_primary is_formed_term (λ layer. layer.first && all_hold layer.more) (λ operation. operation.right) x) ∙ formed in
-    subst Good (sym (fold-roll-Prefix Text Text Text Text Text prefix_step primary_step term_step layer_step operation_step x)) (prefix_by x holds is)
+prefix_case : (x : Prefix-F Prefix Primary Term Layer Operation) → PrefixHolds x → S-prefix (roll-Prefix x)
+prefix_case x holds n fits =
+    let is : PrefixFits n x = unrolled n (fold-roll-Prefix Bool Bool Bool Bool Bool is_formed_prefix is_formed_primary is_formed_term (λ layer. layer.first && all_hold layer.more) (λ operation. operation.right) x) (fold-roll-Prefix ℕ ℕ ℕ ℕ ℕ depth_of_prefix depth_of_primary depth_of_term (λ layer. max layer.first (deepest layer.more)) (λ operation. operation.right) x) fits in
+    subst (λ (t : List ℕ). PrefixSpelled n t (roll-Prefix x)) (sym (fold-roll-Prefix Text Text Text Text Text prefix_step primary_step term_step layer_step operation_step x)) (prefix_by n x holds is)
 
-abbrev FormedPrimary : Primary-F Prefix Primary Term Layer Operation → Type 0
-FormedPrimary x = is_formed_primary (map-Primary Prefix Primary Term Layer Operation Bool Bool Bool Bool Bool formed_prefix formed_primary formed_term is_formed_layer formed_operation x) ≡ true
+-- ---- Layers that stand alone or beside an operation
+
+abbrev DistanceSpelled : ℕ → ℕ → Distance → Type 0
+DistanceSpelled n place those = Ruled Closed n r.primary (distance_text those) (λ read. placeless_primary read ≡ placeless_primary (roll-Primary (Primary-F.Distance place those)))
+
+abbrev behind_text : Distance → List ℕ
+behind_text those = input_text those.first ++ (second_text those.second ++ (bound_text those.bound ++ options_text those.options))
+
+distance_by : (n place : ℕ) (kind : DistanceKind) (first : Input) (second : Option Input) (bound : Bound) (options : Options)
+    → BehindWord n (record { kind = kind; first = first; second = second; bound = bound; options = options }) → DistanceSpelled n place (record { kind = kind; first = first; second = second; bound = bound; options = options })
+distance_by n place distance_kinds.Internal first second bound options behind = record {
+  alternative = a.internal;
+  spelled = token_then (codes "INT") (behind_text (record { kind = distance_kinds.Internal; first = first; second = second; bound = bound; options = options })) word.int behind.before (λ at.
+      last_rule (behind_text (record { kind = distance_kinds.Internal; first = first; second = second; bound = bound; options = options })) behind.ruled (λ d same. distance_at at place d _ same));
+}
+distance_by n place distance_kinds.External first second bound options behind = record {
+  alternative = a.external;
+  spelled = token_then (codes "EXT") (behind_text (record { kind = distance_kinds.External; first = first; second = second; bound = bound; options = options })) word.ext behind.before (λ at.
+      last_rule (behind_text (record { kind = distance_kinds.External; first = first; second = second; bound = bound; options = options })) behind.ruled (λ d same. distance_at at place d _ same));
+}
+distance_by n place distance_kinds.Enclosure first second bound options behind = record {
+  alternative = a.enclosure;
+  spelled = token_then (codes "ENC") (behind_text (record { kind = distance_kinds.Enclosure; first = first; second = second; bound = bound; options = options })) word.enc behind.before (λ at.
+      last_rule (behind_text (record { kind = distance_kinds.Enclosure; first = first; second = second; bound = bound; options = options })) behind.ruled (λ d same. distance_at at place d _ same));
+}
+
+abbrev PrimaryFits : ℕ → Primary-F Prefix Primary Term Layer Operation → Type 0
+PrimaryFits n x = Fits (is_formed_primary (map-Primary Prefix Primary Term Layer Operation Bool Bool Bool Bool Bool formed_prefix formed_primary formed_term is_formed_layer formed_operation x)) (depth_of_primary (map-Primary Prefix Primary Term Layer Operation ℕ ℕ ℕ ℕ ℕ depth_prefix depth_primary depth_term depth_of_layer depth_operation x)) n
 
 abbrev PrimaryHolds : Primary-F Prefix Primary Term Layer Operation → Type 0
-PrimaryHolds (Primary-F.Term term) = P-term term
-PrimaryHolds (Primary-F.Prefix at prefixed) = P-prefix prefixed
+PrimaryHolds (Primary-F.Term term) = S-term term
+PrimaryHolds (Primary-F.Prefix at prefixed) = S-prefix prefixed
 PrimaryHolds (Primary-F.Distance at distance) = Unit {0}
 
-primary_by : (x : Primary-F Prefix Primary Term Layer Operation) → PrimaryHolds x → FormedPrimary x
-    → Good (primary_step (map-Primary Prefix Primary Term Layer Operation Text Text Text Text Text prefix_text primary_text term_text layer_text operation_text x))
-primary_by (Primary-F.Term term) holds formed = holds formed
-primary_by (Primary-F.Prefix at prefixed) holds formed = holds formed
-primary_by (Primary-F.Distance at distance) holds formed = distance_good distance formed
+primary_by : (n : ℕ) (x : Primary-F Prefix Primary Term Layer Operation) → PrimaryHolds x → PrimaryFits n x → PrimarySpelled n (primary_step (map-Primary Prefix Primary Term Layer Operation Text Text Text Text Text prefix_text primary_text term_text layer_text operation_text x)) (roll-Primary x)
+primary_by n (Primary-F.Term term) holds fits = (holds n fits).1
+primary_by n (Primary-F.Prefix at prefixed) holds fits = holds n fits at
+primary_by n (Primary-F.Distance at those) holds fits = distance_by n at those.kind those.first those.second those.bound those.options (distance_spelled n those fits)
 
-primary_case : (x : Primary-F Prefix Primary Term Layer Operation) → PrimaryHolds x → P-primary (roll-Primary x)
-primary_case x holds formed =
-    let is : FormedPrimary x = sym (fold-roll-Primary Bool Bool Bool Bool Bool is_formed_prefix is_formed_primary is_formed_term (λ layer. layer.first && all_hold layer.more) (λ operation. operation.right) x) ∙ formed in
-    subst Good (sym (fold-roll-Primary Text Text Text Text Text prefix_step primary_step term_step layer_step operation_step x)) (primary_by x holds is)
+primary_case : (x : Primary-F Prefix Primary Term Layer Operation) → PrimaryHolds x → S-primary (roll-Primary x)
+primary_case x holds n fits =
+    let is : PrimaryFits n x = unrolled n (fold-roll-Primary Bool Bool Bool Bool Bool is_formed_prefix is_formed_primary is_formed_term (λ layer. layer.first && all_hold layer.more) (λ operation. operation.right) x) (fold-roll-Primary ℕ ℕ ℕ ℕ ℕ depth_of_prefix depth_of_primary depth_of_term (λ layer. max layer.first (deepest layer.more)) (λ operation. operation.right) x) fits in
+    subst (λ (t : List ℕ). PrimarySpelled n t (roll-Primary x)) (sym (fold-roll-Primary Text Text Text Text Text prefix_step primary_step term_step layer_step operation_step x)) (primary_by n x holds is)
 
-abbrev FormedTerm : Term-F Prefix Primary Term Layer Operation → Type 0
-FormedTerm x = is_formed_term (map-Term Prefix Primary Term Layer Operation Bool Bool Bool Bool Bool formed_prefix formed_primary formed_term is_formed_layer formed_operation x) ≡ true
+abbrev TermFits : ℕ → Term-F Prefix Primary Term Layer Operation → Type 0
+TermFits n x = Fits (is_formed_term (map-Term Prefix Primary Term Layer Operation Bool Bool Bool Bool Bool formed_prefix formed_primary formed_term is_formed_layer formed_operation x)) (depth_of_term (map-Term Prefix Primary Term Layer Operation ℕ ℕ ℕ ℕ ℕ depth_prefix depth_primary depth_term depth_of_layer depth_operation x)) n
 
 abbrev TermHolds : Term-F Prefix Primary Term Layer Operation → Type 0
 TermHolds (Term-F.Name name) = Unit {0}
-TermHolds (Term-F.Bracketed at layer) = P-layer layer
+TermHolds (Term-F.Bracketed at layer) = S-layer layer
 
-term_by : (x : Term-F Prefix Primary Term Layer Operation) → TermHolds x → FormedTerm x
-    → Good (term_step (map-Term Prefix Primary Term Layer Operation Text Text Text Text Text prefix_text primary_text term_text layer_text operation_text x))
-term_by (Term-F.Name name) holds formed = good_name name.name formed
-term_by (Term-F.Bracketed at layer) holds formed = in_brackets (layer_text layer) (holds formed)
+term_by : (n : ℕ) (x : Term-F Prefix Primary Term Layer Operation) → TermHolds x → TermFits n x → TermSpelled n (term_step (map-Term Prefix Primary Term Layer Operation Text Text Text Text Text prefix_text primary_text term_text layer_text operation_text x)) (roll-Term x)
+term_by n (Term-F.Name name) holds fits = (
+  record { alternative = a.name_term; spelled = last_token name.name (name_one name.name fits.is) (λ at. name_alike _ name refl) },
+  record { alternative = a.name_primary; spelled = last_token name.name (name_one name.name fits.is) (λ at. term_at _ (roll-Term (Term-F.Name name)) (name_alike _ name refl)) },
+)
+term_by n (Term-F.Bracketed at layer) holds fits =
+    let below = may_open (is_formed_layer layer) (depth_of_layer layer) n fits in
+    let within = holds (suc n) (inside (is_formed_layer layer) (depth_of_layer layer) n fits) in (
+      record { alternative = a.bracketed_term; spelled = in_round (layer_text layer) below within (λ bracket close l same. bracketed_alike bracket at l layer same) },
+      record { alternative = a.bracketed_primary; spelled = in_round (layer_text layer) below within (λ bracket close l same. term_at _ (roll-Term (Term-F.Bracketed at layer)) (bracketed_alike bracket at l layer same)) },
+    )
 
-term_case : (x : Term-F Prefix Primary Term Layer Operation) → TermHolds x → P-term (roll-Term x)
-term_case x holds formed =
-    let is : FormedTerm x = sym (fold-roll-Term Bool Bool Bool Bool Bool is_formed_prefix is_formed_primary is_formed_term (λ layer. layer.first && all_hold layer.more) (λ operation. operation.right) x) ∙ formed in
-    subst Good (sym (fold-roll-Term Text Text Text Text Text prefix_step primary_step term_step layer_step operation_step x)) (term_by x holds is)
+term_case : (x : Term-F Prefix Primary Term Layer Operation) → TermHolds x → S-term (roll-Term x)
+term_case x holds n fits =
+    let is : TermFits n x = unrolled n (fold-roll-Term Bool Bool Bool Bool Bool is_formed_prefix is_formed_primary is_formed_term (λ layer. layer.first && all_hold layer.more) (λ operation. operation.right) x) (fold-roll-Term ℕ ℕ ℕ ℕ ℕ depth_of_prefix depth_of_primary depth_of_term (λ layer. max layer.first (deepest layer.more)) (λ operation. operation.right) x) fits in
+    subst (λ (t : List ℕ). TermSpelled n t (roll-Term x)) (sym (fold-roll-Term Text Text Text Text Text prefix_step primary_step term_step layer_step operation_step x)) (term_by n x holds is)
 
-layer_case : (x : Layer-F Prefix Primary Term Layer Operation) → P-primary x.first → AllByRecursion P-operation x.more → P-layer (roll-Layer x)
-layer_case x first more formed =
-    let is : (formed_primary x.first && all_hold (map formed_operation x.more)) ≡ true = sym (fold-roll-Layer Bool Bool Bool Bool Bool is_formed_prefix is_formed_primary is_formed_term (λ layer. layer.first && all_hold layer.more) (λ operation. operation.right) x) ∙ formed in
-    let both = and_parts (formed_primary x.first) _ is in
-    subst Good (sym (fold-roll-Layer Text Text Text Text Text prefix_step primary_step term_step layer_step operation_step x))
-    (good_then (primary_text x.first) _ (first both.0) (tails formed_operation operation_text x.more more both.1))
+-- ---- Layers and their operations
 
-operation_case : (x : Operation-F Prefix Primary Term Layer Operation) → P-primary x.right → P-operation (roll-Operation x)
-operation_case x holds formed =
-    let is : formed_primary x.right ≡ true = sym (fold-roll-Operation Bool Bool Bool Bool Bool is_formed_prefix is_formed_primary is_formed_term (λ layer. layer.first && all_hold layer.more) (λ operation. operation.right) x) ∙ formed in
-    subst Tail (sym (fold-roll-Operation Text Text Text Text Text prefix_step primary_step term_step layer_step operation_step x))
-    (tail_space (infix_text x.operator ++ 32 ∷ primary_text x.right) (good_then (infix_text x.operator) (32 ∷ primary_text x.right) (infix_good x.operator) (tail_space (primary_text x.right) (holds is))))
+operation_by : (place : ℕ) (operator : Infix) (q : Primary) → S-primary q → (n : ℕ) → Fits (formed_primary q) (depth_primary q) n → (w : List ℕ) (more : List Operation) → Operations n w more
+    → Operations n (32 ∷ (infix_text operator ++ 32 ∷ (primary_text q ++ w))) (roll-Operation (record { at = place; operator = operator; right = q }) ∷ more)
+operation_by place operator q holds n fits w more rest = (
+  record {
+    alternative = a.an_operation;
+    spelled = blank_then 32 (infix_text operator ++ 32 ∷ (primary_text q ++ w)) refl (rule_space (infix_text operator) (primary_text q ++ w) (infix_spelled n operator) (λ (placed : r.Placed) is.
+        rule_then (primary_text q) w (holds n fits) rest.1 (λ p same.
+        last_rule w rest.0 (λ ps all. alike (operation_alike placed.at place placed.operator operator p q is same) all))));
+  },
+  λ behind e. refl,
+)
+
+operation_case : (x : Operation-F Prefix Primary Term Layer Operation) → S-primary x.right → S-operation (roll-Operation x)
+operation_case x holds n fits w more rest =
+    let is : Fits (formed_primary x.right) (depth_primary x.right) n = unrolled n (fold-roll-Operation Bool Bool Bool Bool Bool is_formed_prefix is_formed_primary is_formed_term (λ layer. layer.first && all_hold layer.more) (λ operation. operation.right) x) (fold-roll-Operation ℕ ℕ ℕ ℕ ℕ depth_of_prefix depth_of_primary depth_of_term (λ layer. max layer.first (deepest layer.more)) (λ operation. operation.right) x) fits in
+    let text : operation_text (roll-Operation x) ++ w ≡ 32 ∷ (infix_text x.operator ++ 32 ∷ (primary_text x.right ++ w)) =
+    ap (λ (t : List ℕ). t ++ w) (fold-roll-Operation Text Text Text Text Text prefix_step primary_step term_step layer_step operation_step x) ∙ ap (λ (t : List ℕ). 32 ∷ t) (append_assoc (infix_text x.operator) (32 ∷ primary_text x.right) w) in
+    subst (λ (t : List ℕ). Operations n t (roll-Operation x ∷ more)) (sym text) (operation_by x.at x.operator x.right holds n is w more rest)
+
+layer_case : (x : Layer-F Prefix Primary Term Layer Operation) → S-primary x.first → AllByRecursion S-operation x.more → S-layer (roll-Layer x)
+layer_case x first more n fits =
+    let is : Fits (formed_primary x.first && all_hold (map formed_operation x.more)) (max (depth_primary x.first) (deepest (map depth_operation x.more))) n = unrolled n (fold-roll-Layer Bool Bool Bool Bool Bool is_formed_prefix is_formed_primary is_formed_term (λ layer. layer.first && all_hold layer.more) (λ operation. operation.right) x) (fold-roll-Layer ℕ ℕ ℕ ℕ ℕ depth_of_prefix depth_of_primary depth_of_term (λ layer. max layer.first (deepest layer.more)) (λ operation. operation.right) x) fits in
+    let both = both_fit (formed_primary x.first) (all_hold (map formed_operation x.more)) (depth_primary x.first) (deepest (map depth_operation x.more)) n is in
+    let rest = chain formed_operation depth_operation operation_text n Operations (no_operations n) x.more more both.1 in
+    let spelled : LayerSpelled n (primary_text x.first ++ concat (map operation_text x.more)) (roll-Layer x) = record {
+      alternative = a.layer_of;
+      spelled = rule_then (primary_text x.first) (concat (map operation_text x.more)) (first n both.0) rest.1 (λ p same.
+          last_rule (concat (map operation_text x.more)) rest.0 (λ ps all. layer_alike p x.first ps x.more same all));
+    } in
+    subst (λ (t : List ℕ). LayerSpelled n t (roll-Layer x)) (sym (fold-roll-Layer Text Text Text Text Text prefix_step primary_step term_step layer_step operation_step x)) spelled
 
 -- ---- All layers
 
-prefix_such : (y : Prefix-F ((x : Prefix) × P-prefix x) ((x : Primary) × P-primary x) ((x : Term) × P-term x) ((x : Layer) × P-layer x) ((x : Operation) × P-operation x))
-    → PrefixHolds (map-Prefix _ _ _ _ _ Prefix Primary Term Layer Operation (λ e. e.0) (λ e. e.0) (λ e. e.0) (λ e. e.0) (λ e. e.0) y)
+prefix_such : (y : Prefix-F ((x : Prefix) × S-prefix x) ((x : Primary) × S-primary x) ((x : Term) × S-term x) ((x : Layer) × S-layer x) ((x : Operation) × S-operation x)) → PrefixHolds (map-Prefix _ _ _ _ _ Prefix Primary Term Layer Operation (λ e. e.0) (λ e. e.0) (λ e. e.0) (λ e. e.0) (λ e. e.0) y)
 prefix_such (Prefix-F.Copy term) = term.1
 prefix_such (Prefix-F.Rectangle term) = term.1
 prefix_such (Prefix-F.Area term bounds) = term.1
@@ -273,21 +315,19 @@ prefix_such (Prefix-F.Size term value turning) = term.1
 prefix_such (Prefix-F.Angle term value) = term.1
 prefix_such (Prefix-F.Expand term to value) = term.1
 
-primary_such : (y : Primary-F ((x : Prefix) × P-prefix x) ((x : Primary) × P-primary x) ((x : Term) × P-term x) ((x : Layer) × P-layer x) ((x : Operation) × P-operation x))
-    → PrimaryHolds (map-Primary _ _ _ _ _ Prefix Primary Term Layer Operation (λ e. e.0) (λ e. e.0) (λ e. e.0) (λ e. e.0) (λ e. e.0) y)
+primary_such : (y : Primary-F ((x : Prefix) × S-prefix x) ((x : Primary) × S-primary x) ((x : Term) × S-term x) ((x : Layer) × S-layer x) ((x : Operation) × S-operation x)) → PrimaryHolds (map-Primary _ _ _ _ _ Prefix Primary Term Layer Operation (λ e. e.0) (λ e. e.0) (λ e. e.0) (λ e. e.0) (λ e. e.0) y)
 primary_such (Primary-F.Term term) = term.1
 primary_such (Primary-F.Prefix at prefixed) = prefixed.1
 primary_such (Primary-F.Distance at distance) = tt
 
-term_such : (y : Term-F ((x : Prefix) × P-prefix x) ((x : Primary) × P-primary x) ((x : Term) × P-term x) ((x : Layer) × P-layer x) ((x : Operation) × P-operation x))
-    → TermHolds (map-Term _ _ _ _ _ Prefix Primary Term Layer Operation (λ e. e.0) (λ e. e.0) (λ e. e.0) (λ e. e.0) (λ e. e.0) y)
+term_such : (y : Term-F ((x : Prefix) × S-prefix x) ((x : Primary) × S-primary x) ((x : Term) × S-term x) ((x : Layer) × S-layer x) ((x : Operation) × S-operation x)) → TermHolds (map-Term _ _ _ _ _ Prefix Primary Term Layer Operation (λ e. e.0) (λ e. e.0) (λ e. e.0) (λ e. e.0) (λ e. e.0) y)
 term_such (Term-F.Name name) = tt
 term_such (Term-F.Bracketed at layer) = layer.1
 
-pub layer_good : (layer : Layer) → P-layer layer
-layer_good = ind-Layer P-prefix P-primary P-term P-layer P-operation
+pub layer_spelled : (layer : Layer) → S-layer layer
+layer_spelled = ind-Layer S-prefix S-primary S-term S-layer S-operation
     (λ x y is. prefix_case x (subst PrefixHolds is (prefix_such y)))
     (λ x y is. primary_case x (subst PrimaryHolds is (primary_such y)))
     (λ x y is. term_case x (subst TermHolds is (term_such y)))
-    (λ x y is. layer_case x (subst (λ z. P-primary z.first) is y.first.1) (subst (λ z. AllByRecursion P-operation z.more) is (each P-operation y.more)))
-    (λ x y is. operation_case x (subst (λ z. P-primary z.right) is y.right.1))
+    (λ x y is. layer_case x (subst (λ z. S-primary z.first) is y.first.1) (subst (λ z. AllByRecursion S-operation z.more) is (each S-operation y.more)))
+    (λ x y is. operation_case x (subst (λ z. S-primary z.right) is y.right.1))

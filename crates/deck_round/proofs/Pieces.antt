@@ -15,14 +15,33 @@ use Rattle.deck_lexer.specs.Working.Reading.{kind_of, part_len, with_point, numb
 use Rattle.deck_lexer.proofs.Spans.{Stops, span_len}
 use Rattle.deck_lexer.proofs.Lens.{closes_behind}
 use Rattle.deck_lexer.proofs.Fronts.{stands, no_part, no_comment_from}
-use Rattle.deck_round.proofs.Lexing.{Read, read_blank, read_token, closes, Closed, Good, Tail, good_then}
+use Rattle.deck_grammar.specs.declared.kind.Kind.{Kind}
+use Rattle.deck_grammar.specs.declared.kind.Kind.TheVariants as token_kinds
+use Rattle.deck_grammar.specs.Lexemes.{lexeme}
+use Rattle.deck_grammar.specs.Words.{word_kind, sign_kind}
+use Rattle.deck_cursor.specs.Places.{kind_in}
+use Rattle.deck_round.proofs.Levels.{Flat}
+use Rattle.deck_round.proofs.Lexing.{read_token, closes, Closed, Anything, Piece}
 
--- what is computed to stand at the front is read there
-computed_token : (at : ℕ) (kind : TokenKind) (s rest : List ℕ) → part_len (s ++ rest) ≡ 0 → standing at (s ++ rest) ≡ token kind at (length s)
-    → Read (at + length s) rest → Read at (s ++ rest)
-computed_token at kind s rest none is read =
-    let answer : StandsAt at (s ++ rest) (token kind at (length s)) = subst (λ (a : Result (Option Token) LexFault). StandsAt at (s ++ rest) a) is (stands at (s ++ rest) none) in
-    read_token at s rest (record { kind = kind; start = at; «end» = at + length s }) answer refl read
+-- the bytes are one token of this kind, where what comes behind them is so
+pub record Spot (E : List ℕ → Type 0) (k : Kind) (s : List ℕ) : Type 0 where
+  pub piece : (at : ℕ) → Piece E at s (lexeme k at s ∷ [])
+
+-- and it is no round bracket
+pub record One (E : List ℕ → Type 0) (k : Kind) (s : List ℕ) : Type 0 where
+  pub spot : Spot E k s
+  pub flat : Flat k
+
+-- what is computed to stand at the front is one token
+computed : {E : List ℕ → Type 0} (kind : TokenKind) (s : List ℕ)
+    → ((at : ℕ) (rest : List ℕ) → E rest → (part_len (s ++ rest) ≡ 0) × (standing at (s ++ rest) ≡ token kind at (length s)))
+    → Spot E (kind_in kind s) s
+computed {E} kind s is = record {
+  piece = λ at rest more behind read.
+      let both = is at rest behind in
+      let answer : StandsAt at (s ++ rest) (token kind at (length s)) = subst (λ (a : Result (Option Token) LexFault). StandsAt at (s ++ rest) a) both.1 (stands at (s ++ rest) both.0) in
+      read_token at kind s rest more answer read;
+}
 
 -- ---- Words
 
@@ -39,14 +58,12 @@ word_no_blank c is = grind (arith, nat_tests)
 word_no_slash : (c : ℕ) → begins_word c ≡ true → c ≡ 47 → ⊥
 word_no_slash c is = λ e. let no : begins_word 47 ≡ true = ap begins_word (sym e) ∙ is in cc
 
-pub good_word : (c : ℕ) (more : List ℕ) → begins_word c ≡ true → list_all continues_word more ≡ true → Good (c ∷ more)
+pub word : (c : ℕ) (more : List ℕ) → begins_word c ≡ true → list_all continues_word more ≡ true → Spot Closed (word_kind (c ∷ more)) (c ∷ more)
 unfolding standing
-good_word c more begins continues = λ at rest closed read.
+word c more begins continues = computed kinds.Word (c ∷ more) (λ at rest closed.
     let len : prefix_len continues_word (more ++ rest) ≡ length more = span_len continues_word more rest continues (closed_stops rest closed) in
-    let none : part_len (c ∷ (more ++ rest)) ≡ 0 = no_part c (more ++ rest) (word_no_blank c begins) (no_comment_from c (more ++ rest) (word_no_slash c begins)) in
     let size : prefix_len continues_word (more ++ rest) + 1 ≡ length (c ∷ more) = omega (arith, len) in
-    let is : standing at (c ∷ (more ++ rest)) ≡ token kinds.Word at (length (c ∷ more)) = rw begins (ap (token kinds.Word at) size) in
-    computed_token at kinds.Word (c ∷ more) rest none is read
+    (no_part c (more ++ rest) (word_no_blank c begins) (no_comment_from c (more ++ rest) (word_no_slash c begins)), rw begins (ap (token kinds.Word at) size)))
 
 -- ---- Signs
 
@@ -81,43 +98,24 @@ pub record Sign (c : ℕ) : Type 0 where
   pub kind : kind_of c ≡ kinds.Sign
   pub no_blank : is_blank c ≡ false
 
-pub good_sign : (c : ℕ) → Sign c → Good (c ∷ [])
-good_sign c sign = λ at rest closed read.
+-- a sign of one byte, behind which nothing comes that would go on with it
+pub sign : (c : ℕ) → Sign c → Spot Closed (sign_kind (c ∷ [])) (c ∷ [])
+sign c is = computed kinds.Sign (c ∷ []) (λ at rest closed.
     let no_comment = no_comment_closed c rest closed in
-    computed_token at kinds.Sign (c ∷ []) rest (no_part c rest sign.no_blank no_comment) (sign_standing at c rest sign.kind no_comment (one_sign c rest sign.is closed)) read
+    (no_part c rest is.no_blank no_comment, sign_standing at c rest is.kind no_comment (one_sign c rest is.is closed)))
 
 -- a sign behind which anything may come
-pub opening : (c : ℕ) (w : List ℕ) → Sign c → begins_comparison c ≡ false → (c ≡ 47 → ⊥) → Good w → Good (c ∷ w)
-opening c w sign other apart good = λ at rest closed read.
-    let no_comment = no_comment_from c (w ++ rest) apart in
-    let size : at + length (c ∷ w) ≡ at + 1 + length w = omega arith in
-    computed_token at kinds.Sign (c ∷ []) (w ++ rest) (no_part c (w ++ rest) sign.no_blank no_comment)
-    (sign_standing at c (w ++ rest) sign.kind no_comment (plain_sign c (w ++ rest) sign.is other))
-    (good (at + 1) rest closed (subst (λ (k : ℕ). Read k rest) size read))
+pub opening : (c : ℕ) → Sign c → begins_comparison c ≡ false → (c ≡ 47 → ⊥) → Spot Anything (sign_kind (c ∷ [])) (c ∷ [])
+opening c is other apart = computed kinds.Sign (c ∷ []) (λ at rest any.
+    let no_comment = no_comment_from c rest apart in
+    (no_part c rest is.no_blank no_comment, sign_standing at c rest is.kind no_comment (plain_sign c rest is.is other)))
 
-pub good_double : (c : ℕ) → begins_comparison c ≡ true → kind_of c ≡ kinds.Sign → is_blank c ≡ false → Good (c ∷ 61 ∷ [])
+-- a comparison of two bytes
+pub double : (c : ℕ) → begins_comparison c ≡ true → kind_of c ≡ kinds.Sign → is_blank c ≡ false → Spot Closed (sign_kind (c ∷ 61 ∷ [])) (c ∷ 61 ∷ [])
 unfolding standing sign_at
-good_double c is kind no_blank = λ at rest closed read.
+double c is kind no_blank = computed kinds.Sign (c ∷ 61 ∷ []) (λ at rest closed.
     let no_comment : begins_comment (c ∷ 61 ∷ rest) ≡ false = and_right (eqb c 47) (eqb 61 47 || eqb 61 42) refl in
-    let two : standing at (c ∷ 61 ∷ rest) ≡ token kinds.Sign at 2 = ap (λ (k : TokenKind). standing_as k at c (61 ∷ rest)) kind ∙ rw (no_comment, is) refl in
-    computed_token at kinds.Sign (c ∷ 61 ∷ []) rest (no_part c (61 ∷ rest) no_blank no_comment) two read
-
--- ---- Brackets
-
-pub in_brackets : (w : List ℕ) → Good w → Good (40 ∷ (w ++ 41 ∷ []))
-in_brackets w good = opening 40 (w ++ 41 ∷ []) (record { is = refl; kind = refl; no_blank = refl }) refl (λ e. omega arith) (good_then w (41 ∷ []) good closing)
-  where
-    closing : Tail (41 ∷ [])
-    closing = record { good = good_sign 41 (record { is = refl; kind = refl; no_blank = refl }); closed = λ rest closed. refl }
-
-pub in_squares : (w : List ℕ) → Good w → Good (91 ∷ (w ++ 93 ∷ []))
-in_squares w good = opening 91 (w ++ 93 ∷ []) (record { is = refl; kind = refl; no_blank = refl }) refl (λ e. omega arith) (good_then w (93 ∷ []) good closing)
-  where
-    closing : Tail (93 ∷ [])
-    closing = record { good = good_sign 93 (record { is = refl; kind = refl; no_blank = refl }); closed = λ rest closed. refl }
-
-pub behind_minus : (w : List ℕ) → Good w → Good (45 ∷ w)
-behind_minus w good = opening 45 w (record { is = refl; kind = refl; no_blank = refl }) refl (λ e. omega arith) good
+    (no_part c (61 ∷ rest) no_blank no_comment, ap (λ (k : TokenKind). standing_as k at c (61 ∷ rest)) kind ∙ rw (no_comment, is) refl))
 
 -- ---- Numbers
 
@@ -162,66 +160,50 @@ point_len whole fraction rest digits more some closed =
     rw (behind, len, back, there) refl
 
 -- a number as it stands at the front, by its length
-number_good : (c : ℕ) (s : List ℕ) → is_digit c ≡ true → ((rest : List ℕ) → Closed rest → number_len ((c ∷ s) ++ rest) ≡ length (c ∷ s)) → Good (c ∷ s)
+number_by : (c : ℕ) (s : List ℕ) → is_digit c ≡ true → ((rest : List ℕ) → Closed rest → number_len ((c ∷ s) ++ rest) ≡ length (c ∷ s)) → Spot Closed token_kinds.Number (c ∷ s)
 unfolding standing number_at
-number_good c s digit len = λ at rest closed read.
+number_by c s digit len = computed kinds.Number (c ∷ s) (λ at rest closed.
     let first = digit_kind c digit in
     let size = len rest closed in
     let not_none : eqb (number_len (c ∷ (s ++ rest))) 0 ≡ false = ne_eqb _ 0 (λ e. omega (arith, size)) in
     let behind : drop (number_len (c ∷ (s ++ rest))) (c ∷ (s ++ rest)) ≡ rest = drop_at (c ∷ s) rest _ (sym size) in
     let ends : goes_on_as_word (drop (number_len (c ∷ (s ++ rest))) (c ∷ (s ++ rest))) ≡ false = ap goes_on_as_word behind ∙ closed_no_word rest closed in
-    let is : standing at (c ∷ (s ++ rest)) ≡ token kinds.Number at (length (c ∷ s)) =
-    ap (λ (k : TokenKind). standing_as k at c (s ++ rest)) first.0 ∙ rw (not_none, ends) (ap (token kinds.Number at) size) in
-    computed_token at kinds.Number (c ∷ s) rest (no_part c (s ++ rest) first.1 (no_comment_from c (s ++ rest) first.2)) is read
+    (no_part c (s ++ rest) first.1 (no_comment_from c (s ++ rest) first.2), ap (λ (k : TokenKind). standing_as k at c (s ++ rest)) first.0 ∙ rw (not_none, ends) (ap (token kinds.Number at) size)))
 
-pub good_whole : (c : ℕ) (whole : List ℕ) → list_all is_digit (c ∷ whole) ≡ true → Good (c ∷ whole)
-good_whole c whole digits = number_good c whole (and_parts (is_digit c) (list_all is_digit whole) digits).0 (λ rest closed. whole_len (c ∷ whole) rest digits closed)
+pub whole_number : (c : ℕ) (whole : List ℕ) → list_all is_digit (c ∷ whole) ≡ true → Spot Closed token_kinds.Number (c ∷ whole)
+whole_number c whole digits = number_by c whole (and_parts (is_digit c) (list_all is_digit whole) digits).0 (λ rest closed. whole_len (c ∷ whole) rest digits closed)
 
-pub good_point : (c : ℕ) (whole fraction : List ℕ) → list_all is_digit (c ∷ whole) ≡ true → list_all is_digit fraction ≡ true → Good (c ∷ (whole ++ 46 ∷ fraction))
-good_point c whole fraction digits more = number_good c (whole ++ 46 ∷ fraction) (and_parts (is_digit c) (list_all is_digit whole) digits).0 (λ rest closed.
+pub point_number : (c : ℕ) (whole fraction : List ℕ) → list_all is_digit (c ∷ whole) ≡ true → list_all is_digit fraction ≡ true → Spot Closed token_kinds.Number (c ∷ (whole ++ 46 ∷ fraction))
+point_number c whole fraction digits more = number_by c (whole ++ 46 ∷ fraction) (and_parts (is_digit c) (list_all is_digit whole) digits).0 (λ rest closed.
     let text : (c ∷ (whole ++ 46 ∷ fraction)) ++ rest ≡ (c ∷ whole) ++ 46 ∷ (fraction ++ rest) = append_assoc (c ∷ whole) (46 ∷ fraction) rest in
     ap number_len text ∙ point_len (c ∷ whole) fraction rest digits more (omega arith) closed ∙ omega (arith, length-append whole (46 ∷ fraction)))
 
 -- ---- Texts and notes
 
-pub good_text : (body : List ℕ) → list_all is_text_byte body ≡ true → Good (34 ∷ (body ++ 34 ∷ []))
+pub text : (body : List ℕ) → list_all is_text_byte body ≡ true → Spot Closed token_kinds.Text (34 ∷ (body ++ 34 ∷ []))
 unfolding standing text_at
-good_text body fine = λ at rest closed read.
+text body fine = computed kinds.Text (34 ∷ (body ++ 34 ∷ [])) (λ at rest closed.
     let more = (body ++ 34 ∷ []) ++ rest in
-    let text : more ≡ body ++ 34 ∷ rest = append_assoc body (34 ∷ []) rest in
-    let len : prefix_len is_text_byte more ≡ length body = ap (prefix_len is_text_byte) text ∙ span_len is_text_byte body (34 ∷ rest) fine refl in
-    let ends : closes_on_line more ≡ true = ap closes_on_line text ∙ closes_behind body (34 ∷ rest) fine in
+    let parts : more ≡ body ++ 34 ∷ rest = append_assoc body (34 ∷ []) rest in
+    let len : prefix_len is_text_byte more ≡ length body = ap (prefix_len is_text_byte) parts ∙ span_len is_text_byte body (34 ∷ rest) fine refl in
+    let ends : closes_on_line more ≡ true = ap closes_on_line parts ∙ closes_behind body (34 ∷ rest) fine in
     let here : eqb (get_or more (prefix_len is_text_byte more) 0) 34 ≡ true =
-    ap (λ (k : ℕ). eqb (get_or more k 0) 34) len ∙ ap (λ (t : List ℕ). eqb (get_or t (length body) 0) 34) text ∙ ap (λ (x : ℕ). eqb x 34) (get_or-append_seam body 34 rest 0) in
+    ap (λ (k : ℕ). eqb (get_or more k 0) 34) len ∙ ap (λ (t : List ℕ). eqb (get_or t (length body) 0) 34) parts ∙ ap (λ (x : ℕ). eqb x 34) (get_or-append_seam body 34 rest 0) in
     let size : prefix_len is_text_byte more + 2 ≡ length (34 ∷ (body ++ 34 ∷ [])) = omega (arith, len, length-append body (34 ∷ [])) in
-    let is : standing at (34 ∷ more) ≡ token kinds.Text at (length (34 ∷ (body ++ 34 ∷ []))) = rw (ends, here) (ap (token kinds.Text at) size) in
-    computed_token at kinds.Text (34 ∷ (body ++ 34 ∷ [])) rest (no_part 34 more refl (no_comment_from 34 more (λ e. omega arith))) is read
+    (no_part 34 more refl (no_comment_from 34 more (λ e. omega arith)), rw (ends, here) (ap (token kinds.Text at) size)))
 
--- lines, behind which anything may come
-abbrev pub Line : List ℕ → Type 0
-Line w = (at : ℕ) (rest : List ℕ) → Read (at + length w) rest → Read at (w ++ rest)
+-- the line ends, or the text
+abbrev pub LineEnds : List ℕ → Type 0
+LineEnds [] = Unit {0}
+LineEnds (c ∷ more) = c ≡ 10
 
-pub line_then : (a b : List ℕ) → Line a → Line b → Line (a ++ b)
-line_then a b la lb = λ at rest read.
-    let size : at + length (a ++ b) ≡ at + length a + length b = omega (arith, length-append a b) in
-    subst (λ (t : List ℕ). Read at t) (sym (append_assoc a b rest)) (la at (b ++ rest) (lb (at + length a) rest (subst (λ (k : ℕ). Read k rest) size read)))
+line_stops : (rest : List ℕ) → LineEnds rest → Stops is_in_line rest
+line_stops [] ends = tt
+line_stops (c ∷ more) ends = ap is_in_line ends
 
-pub line_nil : Line []
-line_nil = λ at rest read. let same : at + 0 ≡ at = omega arith in subst (λ (k : ℕ). Read k rest) same read
-
-pub line_of : (w : List ℕ) → Good w → Line (w ++ 10 ∷ [])
-line_of w good = λ at rest read.
-    let size : at + length (w ++ 10 ∷ []) ≡ suc (at + length w) = omega (arith, length-append w (10 ∷ [])) in
-    let later : Read (at + length w) (10 ∷ rest) = read_blank (at + length w) 10 rest refl (subst (λ (k : ℕ). Read k rest) size read) in
-    subst (λ (t : List ℕ). Read at t) (sym (append_assoc w (10 ∷ []) rest)) (good at (10 ∷ rest) refl later)
-
-pub note_line : (body : List ℕ) → list_all is_in_line body ≡ true → Line ((64 ∷ body) ++ 10 ∷ [])
+pub note : (body : List ℕ) → list_all is_in_line body ≡ true → Spot LineEnds token_kinds.Note (64 ∷ body)
 unfolding standing
-note_line body fine = λ at rest read.
-    let size : at + length ((64 ∷ body) ++ 10 ∷ []) ≡ suc (at + length (64 ∷ body)) = omega (arith, length-append body (10 ∷ [])) in
-    let later : Read (at + length (64 ∷ body)) (10 ∷ rest) = read_blank (at + length (64 ∷ body)) 10 rest refl (subst (λ (k : ℕ). Read k rest) size read) in
-    let len : prefix_len is_in_line (body ++ 10 ∷ rest) ≡ length body = span_len is_in_line body (10 ∷ rest) fine refl in
-    let all : prefix_len is_in_line (body ++ 10 ∷ rest) + 1 ≡ length (64 ∷ body) = omega (arith, len) in
-    let is : standing at (64 ∷ (body ++ 10 ∷ rest)) ≡ token kinds.Note at (length (64 ∷ body)) = ap (token kinds.Note at) all in
-    subst (λ (t : List ℕ). Read at t) (sym (append_assoc (64 ∷ body) (10 ∷ []) rest))
-    (computed_token at kinds.Note (64 ∷ body) (10 ∷ rest) (no_part 64 (body ++ 10 ∷ rest) refl (no_comment_from 64 (body ++ 10 ∷ rest) (λ e. omega arith))) is later)
+note body fine = computed kinds.Note (64 ∷ body) (λ at rest ends.
+    let len : prefix_len is_in_line (body ++ rest) ≡ length body = span_len is_in_line body rest fine (line_stops rest ends) in
+    let all : prefix_len is_in_line (body ++ rest) + 1 ≡ length (64 ∷ body) = omega (arith, len) in
+    (no_part 64 (body ++ rest) refl (no_comment_from 64 (body ++ rest) (λ e. omega arith)), ap (token kinds.Note at) all))

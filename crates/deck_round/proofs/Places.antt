@@ -13,26 +13,25 @@ use Rattle.deck_tree.specs.declared.value.Product.{Product, roll-Product}
 use Rattle.deck_tree.specs.declared.value.Value.{Value, roll-Value}
 use Rattle.deck_tree.specs.Plain.{plain_name, plain_number, plain_place, plain_atom, plain_addend, plain_exponent, plain_factor, plain_value}
 use Rattle.deck_printer.specs.Values.{Text, number_text, minus_text, atom_step, exponent_step, power_step, product_sign_text, factor_step, product_step, add_sign_text, addend_step, value_step, atom_text, addend_text, exponent_text, factor_text, power_text, product_text, value_text}
-use Rattle.deck_round.proofs.Values.{each}
 
 -- ---- Values: each part without places
 
-abbrev placeless_atom : Atom → Atom
+abbrev pub placeless_atom : Atom → Atom
 placeless_atom = fold-Atom Atom Addend Exponent Factor Power Product Value plain_atom plain_addend plain_exponent plain_factor roll-Power roll-Product roll-Value
 
-abbrev placeless_addend : Addend → Addend
+abbrev pub placeless_addend : Addend → Addend
 placeless_addend = fold-Addend Atom Addend Exponent Factor Power Product Value plain_atom plain_addend plain_exponent plain_factor roll-Power roll-Product roll-Value
 
-abbrev placeless_exponent : Exponent → Exponent
+abbrev pub placeless_exponent : Exponent → Exponent
 placeless_exponent = fold-Exponent Atom Addend Exponent Factor Power Product Value plain_atom plain_addend plain_exponent plain_factor roll-Power roll-Product roll-Value
 
-abbrev placeless_factor : Factor → Factor
+abbrev pub placeless_factor : Factor → Factor
 placeless_factor = fold-Factor Atom Addend Exponent Factor Power Product Value plain_atom plain_addend plain_exponent plain_factor roll-Power roll-Product roll-Value
 
-abbrev placeless_power : Power → Power
+abbrev pub placeless_power : Power → Power
 placeless_power = fold-Power Atom Addend Exponent Factor Power Product Value plain_atom plain_addend plain_exponent plain_factor roll-Power roll-Product roll-Value
 
-abbrev placeless_product : Product → Product
+abbrev pub placeless_product : Product → Product
 placeless_product = fold-Product Atom Addend Exponent Factor Power Product Value plain_atom plain_addend plain_exponent plain_factor roll-Power roll-Product roll-Value
 
 abbrev E-atom : Atom → Type 0
@@ -56,6 +55,10 @@ E-product x = product_text (placeless_product x) ≡ product_text x
 abbrev E-value : Value → Type 0
 E-value x = value_text (plain_value x) ≡ value_text x
 
+pub each : {A : Type 0} (P : A → Type 0) (ys : List ((a : A) × P a)) → AllByRecursion P (map (λ e. e.0) ys)
+each P [] = tt
+each P (y ∷ ys) = (y.1, each P ys)
+
 pub same_texts : {A : Type 0} (bare : A → A) (text : A → List ℕ) (xs : List A) → AllByRecursion (λ x. text (bare x) ≡ text x) xs → concat (map text (map bare xs)) ≡ concat (map text xs)
 same_texts bare text [] all = refl
 same_texts bare text (x ∷ xs) all = ap (λ (t : List ℕ). t ++ concat (map text (map bare xs))) all.0 ∙ ap (λ (t : List ℕ). text x ++ t) (same_texts bare text xs all.1)
@@ -74,7 +77,7 @@ atom_of : (x : Atom-F Atom Addend Exponent Factor Power Product Value)
     → atom_text (roll-Atom x) ≡ atom_step (map-Atom Atom Addend Exponent Factor Power Product Value Text Text Text Text Text Text Text atom_text addend_text exponent_text factor_text power_text product_text value_text x)
 atom_of = fold-roll-Atom Text Text Text Text Text Text Text atom_step addend_step exponent_step factor_step power_step product_step value_step
 
-atom_bare : (x : Atom-F Atom Addend Exponent Factor Power Product Value)
+pub atom_bare : (x : Atom-F Atom Addend Exponent Factor Power Product Value)
     → placeless_atom (roll-Atom x) ≡ plain_atom (map-Atom Atom Addend Exponent Factor Power Product Value Atom Addend Exponent Factor Power Product Value placeless_atom placeless_addend placeless_exponent placeless_factor placeless_power placeless_product plain_value x)
 atom_bare = fold-roll-Atom Atom Addend Exponent Factor Power Product Value plain_atom plain_addend plain_exponent plain_factor roll-Power roll-Product roll-Value
 

@@ -29,8 +29,7 @@ use Rattle.deck_tree.specs.Plain.{plain_name, plain_number, plain_value, plain_b
 use Rattle.deck_printer.specs.Values.{Text, value_text, below_text, above_text, bound_text, upper_text, limits_text}
 use Rattle.deck_printer.specs.Layers.{infix_text, turn_text, side_text, expand_words, input_text, second_text, abut_text, distance_text, prefix_step, primary_step, term_step, operation_step, layer_step, prefix_text, primary_text, term_text, operation_text, layer_text}
 use Rattle.deck_printer.specs.Canonical.{most_text, spaced_name, spaced_number, item_text, statement_text, canonical}
-use Rattle.deck_round.proofs.Values.{each}
-use Rattle.deck_round.proofs.Places.{same_texts, value_same}
+use Rattle.deck_round.proofs.Places.{each, same_texts, value_same}
 
 -- ---- What holds values
 
@@ -66,16 +65,16 @@ distance_same those =
 
 -- ---- Layers
 
-abbrev placeless_prefix : Prefix → Prefix
+abbrev pub placeless_prefix : Prefix → Prefix
 placeless_prefix = fold-Prefix Prefix Primary Term Layer Operation plain_prefix plain_primary plain_term roll-Layer plain_operation
 
-abbrev placeless_primary : Primary → Primary
+abbrev pub placeless_primary : Primary → Primary
 placeless_primary = fold-Primary Prefix Primary Term Layer Operation plain_prefix plain_primary plain_term roll-Layer plain_operation
 
-abbrev placeless_term : Term → Term
+abbrev pub placeless_term : Term → Term
 placeless_term = fold-Term Prefix Primary Term Layer Operation plain_prefix plain_primary plain_term roll-Layer plain_operation
 
-abbrev placeless_operation : Operation → Operation
+abbrev pub placeless_operation : Operation → Operation
 placeless_operation = fold-Operation Prefix Primary Term Layer Operation plain_prefix plain_primary plain_term roll-Layer plain_operation
 
 abbrev E-prefix : Prefix → Type 0
@@ -97,7 +96,7 @@ prefix_of : (x : Prefix-F Prefix Primary Term Layer Operation)
     → prefix_text (roll-Prefix x) ≡ prefix_step (map-Prefix Prefix Primary Term Layer Operation Text Text Text Text Text prefix_text primary_text term_text layer_text operation_text x)
 prefix_of = fold-roll-Prefix Text Text Text Text Text prefix_step primary_step term_step layer_step operation_step
 
-prefix_bare : (x : Prefix-F Prefix Primary Term Layer Operation)
+pub prefix_bare : (x : Prefix-F Prefix Primary Term Layer Operation)
     → placeless_prefix (roll-Prefix x) ≡ plain_prefix (map-Prefix Prefix Primary Term Layer Operation Prefix Primary Term Layer Operation placeless_prefix placeless_primary placeless_term plain_layer placeless_operation x)
 prefix_bare = fold-roll-Prefix Prefix Primary Term Layer Operation plain_prefix plain_primary plain_term roll-Layer plain_operation
 
@@ -140,7 +139,7 @@ primary_of : (x : Primary-F Prefix Primary Term Layer Operation)
     → primary_text (roll-Primary x) ≡ primary_step (map-Primary Prefix Primary Term Layer Operation Text Text Text Text Text prefix_text primary_text term_text layer_text operation_text x)
 primary_of = fold-roll-Primary Text Text Text Text Text prefix_step primary_step term_step layer_step operation_step
 
-primary_bare : (x : Primary-F Prefix Primary Term Layer Operation)
+pub primary_bare : (x : Primary-F Prefix Primary Term Layer Operation)
     → placeless_primary (roll-Primary x) ≡ plain_primary (map-Primary Prefix Primary Term Layer Operation Prefix Primary Term Layer Operation placeless_prefix placeless_primary placeless_term plain_layer placeless_operation x)
 primary_bare = fold-roll-Primary Prefix Primary Term Layer Operation plain_prefix plain_primary plain_term roll-Layer plain_operation
 
@@ -162,7 +161,7 @@ term_of : (x : Term-F Prefix Primary Term Layer Operation)
     → term_text (roll-Term x) ≡ term_step (map-Term Prefix Primary Term Layer Operation Text Text Text Text Text prefix_text primary_text term_text layer_text operation_text x)
 term_of = fold-roll-Term Text Text Text Text Text prefix_step primary_step term_step layer_step operation_step
 
-term_bare : (x : Term-F Prefix Primary Term Layer Operation)
+pub term_bare : (x : Term-F Prefix Primary Term Layer Operation)
     → placeless_term (roll-Term x) ≡ plain_term (map-Term Prefix Primary Term Layer Operation Prefix Primary Term Layer Operation placeless_prefix placeless_primary placeless_term plain_layer placeless_operation x)
 term_bare = fold-roll-Term Prefix Primary Term Layer Operation plain_prefix plain_primary plain_term roll-Layer plain_operation
 

@@ -1,15 +1,16 @@
--- The canonical text of values is tokens.
-use Rattle.std.proofs.Common.{◌≡◌, ℕ, Bool, true, ◌&&◌, ◌||◌, eqb, List, [], ◌∷◌, ◌++◌, map, Option, Some, None, refl, sym, subst, ◌∙◌, append-nil}
-use Rattle.std.specs.List.{list_all, concat, AllByRecursion}
-use Rattle.std.specs.Option.{option_map_or}
-use Rattle.std.proofs.lemmas.Bool.{and_parts, and_from, or_left, false≢true}
-use Rattle.std.specs.Char.{is_ascii_alphabetic}
+-- The canonical text of values is spelled by the grammar as they are, but for places.
+use Rattle.std.proofs.Common.{◌≡◌, ℕ, suc, max, Bool, true, ◌&&◌, List, [], ◌∷◌, ◌++◌, map, Option, Some, None, refl, sym, ap, subst, ◌∙◌}
+use Rattle.std.specs.List.{concat, AllByRecursion}
+use Rattle.std.specs.Option.{option_map, option_map_or}
+use Rattle.deck_tree.specs.declared.name_at.NameAt.{NameAt}
 use Rattle.deck_tree.specs.declared.number.Number.{Number}
 use Rattle.deck_tree.specs.declared.value.AddSign.{AddSign}
 use Rattle.deck_tree.specs.declared.value.AddSign.TheVariants as add_sign
 use Rattle.deck_tree.specs.declared.value.ProductSign.{ProductSign}
 use Rattle.deck_tree.specs.declared.value.ProductSign.TheVariants as product_sign
 use Rattle.deck_tree.specs.declared.value.Atom.{Atom, roll-Atom}
+use Rattle.deck_tree.specs.declared.value.Atom.TheVariants as atoms
+use Rattle.deck_tree.specs.declared.value.Atom.TheVariants.{rolls-Number, rolls-Name, rolls-Bracketed}
 use Rattle.deck_tree.specs.declared.value.Atom.TheOpen.{Atom-F, Addend-F, Exponent-F, Factor-F, Power-F, Product-F, Value-F}
 use Rattle.deck_tree.specs.declared.value.Atom.TheFolds.{fold-Atom, fold-Addend, fold-Exponent, fold-Factor, fold-Power, fold-Product, fold-roll-Atom, fold-roll-Addend, fold-roll-Exponent, fold-roll-Factor, fold-roll-Power, fold-roll-Product, fold-roll-Value, ind-Value, map-Atom, map-Power}
 use Rattle.deck_tree.specs.declared.value.Addend.{Addend, roll-Addend}
@@ -18,263 +19,353 @@ use Rattle.deck_tree.specs.declared.value.Factor.{Factor, roll-Factor}
 use Rattle.deck_tree.specs.declared.value.Power.{Power, roll-Power}
 use Rattle.deck_tree.specs.declared.value.Product.{Product, roll-Product}
 use Rattle.deck_tree.specs.declared.value.Value.{Value, roll-Value}
-use Rattle.deck_tree.specs.declared.limits.Below.{Below}
-use Rattle.deck_tree.specs.declared.limits.Below.TheVariants as below
-use Rattle.deck_tree.specs.declared.limits.Above.{Above}
-use Rattle.deck_tree.specs.declared.limits.Above.TheVariants as above
-use Rattle.deck_tree.specs.declared.limits.Bound.{Bound}
-use Rattle.deck_tree.specs.declared.limits.Limits.{Limits}
-use Rattle.deck_tree.specs.declared.limits.Limits.TheVariants as limits
-use Rattle.deck_tree.specs.Words.{is_name, is_whole, is_fraction}
-use Rattle.deck_tree.specs.WellFormed.{all_hold, is_formed_number, is_formed_atom, is_formed_power, is_formed_value, is_formed_bound, is_formed_limits}
-use Rattle.deck_lexer.specs.Bytes.{is_digit, begins_word}
-use Rattle.deck_printer.specs.Values.{Text, fraction_text, number_text, minus_text, atom_step, exponent_step, power_step, product_sign_text, factor_step, product_step, add_sign_text, addend_step, value_step, atom_text, addend_text, exponent_text, factor_text, power_text, product_text, value_text, below_text, above_text, bound_text, upper_text, limits_text}
-use Rattle.deck_round.proofs.Lexing.{Good, Tail, good_then, tail_nil, tail_then, tail_space}
-use Rattle.deck_round.proofs.Pieces.{good_word, good_sign, good_double, in_brackets, behind_minus, good_whole, good_point}
+use Rattle.deck_tree.specs.WellFormed.{all_hold, is_formed_atom, is_formed_power, is_formed_value, deepest, depth_of_atom, depth_of_power, depth_of_value}
+use Rattle.deck_tree.specs.Plain.{plain_name, plain_number, plain_place, plain_atom, plain_addend, plain_exponent, plain_factor, plain_value}
+use Rattle.deck_grammar.specs.Rules as r
+use Rattle.deck_grammar.specs.Alternatives as a
+use Rattle.deck_printer.specs.Values.{Text, atom_step, exponent_step, power_step, product_sign_text, factor_step, product_step, add_sign_text, addend_step, value_step, atom_text, addend_text, exponent_text, factor_text, power_text, product_text, value_text, number_text}
+use Rattle.deck_round.proofs.Levels.{Fits, unrolled, both_fit, inside, may_open}
+use Rattle.deck_round.proofs.Lexing.{Closed, Before}
+use Rattle.deck_round.proofs.Parts.{Ruled, nothing, blank_then, token_then, rule_then, last_token, last_rule, in_round, token_space}
+use Rattle.deck_round.proofs.Keywords as word
+use Rattle.deck_round.proofs.Marks.{name_one, number_one, number_said}
+use Rattle.deck_round.proofs.Places.{placeless_atom, placeless_addend, placeless_exponent, placeless_factor, placeless_power, placeless_product, atom_bare, each}
+use Rattle.deck_round.proofs.AlikeValues.{number_alike, name_alike, bracketed_alike, addend_alike, factor_alike, exponent_alike, power_alike, product_alike, value_alike, alike}
 
--- ---- Names and numbers
+-- ---- The tests of each part, and how deep it is
 
-pub good_name : (name : List ℕ) → is_name name ≡ true → Good name
-good_name [] formed = absurd (false≢true formed)
-good_name (c ∷ more) formed =
-    let outer = and_parts _ _ formed in
-    let inner = and_parts _ _ outer.0 in
-    good_word c more (or_left_word c inner.0) inner.1
-  where
-    or_left_word : (c : ℕ) → (is_ascii_alphabetic c || eqb c 95) ≡ true → begins_word c ≡ true
-    or_left_word c is = or_left (is_ascii_alphabetic c || eqb c 95) (eqb c 35) is
-
-whole_digits : (whole : List ℕ) → is_whole whole ≡ true → list_all is_digit whole ≡ true
-whole_digits [] formed = refl
-whole_digits (d ∷ []) formed = and_from (is_digit d) true formed refl
-whole_digits (d ∷ e ∷ more) formed =
-    let outer = and_parts _ _ formed in
-    let inner = and_parts _ _ outer.0 in
-    and_from (is_digit d) (list_all is_digit (e ∷ more)) inner.0 outer.1
-
-fraction_digits : (fraction : List ℕ) → is_fraction fraction ≡ true → list_all is_digit fraction ≡ true
-fraction_digits [] formed = refl
-fraction_digits (d ∷ []) formed = and_from (is_digit d) true (and_parts _ _ formed).0 refl
-fraction_digits (d ∷ e ∷ more) formed =
-    let both = and_parts (is_digit d) (is_fraction (e ∷ more)) formed in
-    and_from (is_digit d) (list_all is_digit (e ∷ more)) both.0 (fraction_digits (e ∷ more) both.1)
-
-number_good_by : (whole fraction : List ℕ) → is_whole whole ≡ true → is_fraction fraction ≡ true → Good (whole ++ fraction_text fraction)
-number_good_by [] fraction formed more = absurd (false≢true formed)
-number_good_by (c ∷ whole) [] formed more =
-    subst Good (sym (append-nil (c ∷ whole))) (good_whole c whole (whole_digits (c ∷ whole) formed))
-number_good_by (c ∷ whole) (d ∷ fraction) formed more = good_point c whole (d ∷ fraction) (whole_digits (c ∷ whole) formed) (fraction_digits (d ∷ fraction) more)
-
-pub good_number : (number : Number) → is_formed_number number ≡ true → Good (number_text number)
-good_number number formed =
-    let both = and_parts (is_whole number.whole) (is_fraction number.fraction) formed in
-    number_good_by number.whole number.fraction both.0 both.1
-
--- ---- Values: tests and texts of each part
-
-abbrev formed_atom : Atom → Bool
+abbrev pub formed_atom : Atom → Bool
 formed_atom =
     fold-Atom Bool Bool Bool Bool Bool Bool Bool
     is_formed_atom (λ addend. addend.product) (λ exponent. exponent.atom) (λ factor. factor.power) is_formed_power
     (λ product. product.first && all_hold product.more) (λ value. value.first && all_hold value.more)
 
-abbrev formed_addend : Addend → Bool
+abbrev pub formed_addend : Addend → Bool
 formed_addend =
     fold-Addend Bool Bool Bool Bool Bool Bool Bool
     is_formed_atom (λ addend. addend.product) (λ exponent. exponent.atom) (λ factor. factor.power) is_formed_power
     (λ product. product.first && all_hold product.more) (λ value. value.first && all_hold value.more)
 
-abbrev formed_exponent : Exponent → Bool
+abbrev pub formed_exponent : Exponent → Bool
 formed_exponent =
     fold-Exponent Bool Bool Bool Bool Bool Bool Bool
     is_formed_atom (λ addend. addend.product) (λ exponent. exponent.atom) (λ factor. factor.power) is_formed_power
     (λ product. product.first && all_hold product.more) (λ value. value.first && all_hold value.more)
 
-abbrev formed_factor : Factor → Bool
+abbrev pub formed_factor : Factor → Bool
 formed_factor =
     fold-Factor Bool Bool Bool Bool Bool Bool Bool
     is_formed_atom (λ addend. addend.product) (λ exponent. exponent.atom) (λ factor. factor.power) is_formed_power
     (λ product. product.first && all_hold product.more) (λ value. value.first && all_hold value.more)
 
-abbrev formed_power : Power → Bool
+abbrev pub formed_power : Power → Bool
 formed_power =
     fold-Power Bool Bool Bool Bool Bool Bool Bool
     is_formed_atom (λ addend. addend.product) (λ exponent. exponent.atom) (λ factor. factor.power) is_formed_power
     (λ product. product.first && all_hold product.more) (λ value. value.first && all_hold value.more)
 
-abbrev formed_product : Product → Bool
+abbrev pub formed_product : Product → Bool
 formed_product =
     fold-Product Bool Bool Bool Bool Bool Bool Bool
     is_formed_atom (λ addend. addend.product) (λ exponent. exponent.atom) (λ factor. factor.power) is_formed_power
     (λ product. product.first && all_hold product.more) (λ value. value.first && all_hold value.more)
 
-abbrev P-atom : Atom → Type 0
-P-atom x = formed_atom x ≡ true → Good (atom_text x)
+abbrev pub depth_atom : Atom → ℕ
+depth_atom =
+    fold-Atom ℕ ℕ ℕ ℕ ℕ ℕ ℕ
+    depth_of_atom (λ addend. addend.product) (λ exponent. exponent.atom) (λ factor. factor.power) depth_of_power
+    (λ product. max product.first (deepest product.more)) (λ value. max value.first (deepest value.more))
 
-abbrev P-addend : Addend → Type 0
-P-addend x = formed_addend x ≡ true → Tail (addend_text x)
+abbrev pub depth_addend : Addend → ℕ
+depth_addend =
+    fold-Addend ℕ ℕ ℕ ℕ ℕ ℕ ℕ
+    depth_of_atom (λ addend. addend.product) (λ exponent. exponent.atom) (λ factor. factor.power) depth_of_power
+    (λ product. max product.first (deepest product.more)) (λ value. max value.first (deepest value.more))
 
-abbrev P-exponent : Exponent → Type 0
-P-exponent x = formed_exponent x ≡ true → Tail (exponent_text x)
+abbrev pub depth_exponent : Exponent → ℕ
+depth_exponent =
+    fold-Exponent ℕ ℕ ℕ ℕ ℕ ℕ ℕ
+    depth_of_atom (λ addend. addend.product) (λ exponent. exponent.atom) (λ factor. factor.power) depth_of_power
+    (λ product. max product.first (deepest product.more)) (λ value. max value.first (deepest value.more))
 
-abbrev P-factor : Factor → Type 0
-P-factor x = formed_factor x ≡ true → Tail (factor_text x)
+abbrev pub depth_factor : Factor → ℕ
+depth_factor =
+    fold-Factor ℕ ℕ ℕ ℕ ℕ ℕ ℕ
+    depth_of_atom (λ addend. addend.product) (λ exponent. exponent.atom) (λ factor. factor.power) depth_of_power
+    (λ product. max product.first (deepest product.more)) (λ value. max value.first (deepest value.more))
 
-abbrev P-power : Power → Type 0
-P-power x = formed_power x ≡ true → Good (power_text x)
+abbrev pub depth_power : Power → ℕ
+depth_power =
+    fold-Power ℕ ℕ ℕ ℕ ℕ ℕ ℕ
+    depth_of_atom (λ addend. addend.product) (λ exponent. exponent.atom) (λ factor. factor.power) depth_of_power
+    (λ product. max product.first (deepest product.more)) (λ value. max value.first (deepest value.more))
 
-abbrev P-product : Product → Type 0
-P-product x = formed_product x ≡ true → Good (product_text x)
-
-abbrev P-value : Value → Type 0
-P-value x = is_formed_value x ≡ true → Good (value_text x)
+abbrev pub depth_product : Product → ℕ
+depth_product =
+    fold-Product ℕ ℕ ℕ ℕ ℕ ℕ ℕ
+    depth_of_atom (λ addend. addend.product) (λ exponent. exponent.atom) (λ factor. factor.power) depth_of_power
+    (λ product. max product.first (deepest product.more)) (λ value. max value.first (deepest value.more))
 
 -- ---- Lists of parts
 
-pub each : {A : Type 0} (P : A → Type 0) (ys : List ((a : A) × P a)) → AllByRecursion P (map (λ e. e.0) ys)
-each P [] = tt
-each P (y ∷ ys) = (y.1, each P ys)
+pub chain : {A : Type 0} (formed : A → Bool) (depth : A → ℕ) (text : A → List ℕ) (n : ℕ) (Holds : ℕ → List ℕ → List A → Type 0) → Holds n [] [] → (xs : List A)
+    → AllByRecursion (λ x. (k : ℕ) → Fits (formed x) (depth x) k → (w : List ℕ) (more : List A) → Holds k w more → Holds k (text x ++ w) (x ∷ more)) xs
+    → Fits (all_hold (map formed xs)) (deepest (map depth xs)) n → Holds n (concat (map text xs)) xs
+chain formed depth text n Holds none [] all fits = none
+chain formed depth text n Holds none (x ∷ xs) all fits =
+    let both = both_fit (formed x) (all_hold (map formed xs)) (depth x) (deepest (map depth xs)) n fits in
+    all.0 n both.0 (concat (map text xs)) xs (chain formed depth text n Holds none xs all.1 both.1)
 
-pub tails : {A : Type 0} (formed : A → Bool) (text : A → List ℕ) (xs : List A) → AllByRecursion (λ x. formed x ≡ true → Tail (text x)) xs
-    → all_hold (map formed xs) ≡ true → Tail (concat (map text xs))
-tails formed text [] all is = tail_nil
-tails formed text (x ∷ xs) all is =
-    let both = and_parts (formed x) (all_hold (map formed xs)) is in
-    tail_then (text x) (concat (map text xs)) (all.0 both.0) (tails formed text xs all.1 both.1)
+-- the text is addends, and can stand behind a product
+abbrev Addends : ℕ → List ℕ → List Addend → Type 0
+Addends n w more = Ruled Closed n r.addends w (λ read. map placeless_addend read ≡ map placeless_addend more) × Before Closed Closed w
 
--- ---- Each part from its parts
+no_addends : (n : ℕ) → Addends n [] []
+no_addends n = (record { alternative = a.no_addend; spelled = nothing refl }, λ rest e. e)
 
-minus_good : (minus : Option ℕ) (w : List ℕ) → Good w → Good (minus_text minus ++ w)
-minus_good None w good = good
-minus_good (Some at) w good = behind_minus w good
+-- the text is factors, and can stand behind a power
+abbrev Factors : ℕ → List ℕ → List Factor → Type 0
+Factors n w more = Ruled Closed n r.factors w (λ read. map placeless_factor read ≡ map placeless_factor more) × Before Closed Closed w
+
+no_factors : (n : ℕ) → Factors n [] []
+no_factors n = (record { alternative = a.no_factor; spelled = nothing refl }, λ rest e. e)
+
+-- ---- What is shown of each part
+
+abbrev S-atom : Atom → Type 0
+S-atom x = (n : ℕ) → Fits (formed_atom x) (depth_atom x) n → Ruled Closed n r.atom (atom_text x) (λ read. placeless_atom read ≡ placeless_atom x)
+
+abbrev S-addend : Addend → Type 0
+S-addend x = (n : ℕ) → Fits (formed_addend x) (depth_addend x) n → (w : List ℕ) (more : List Addend) → Addends n w more → Addends n (addend_text x ++ w) (x ∷ more)
+
+abbrev S-exponent : Exponent → Type 0
+S-exponent x = (n : ℕ) → Fits (formed_exponent x) (depth_exponent x) n → Ruled Closed n r.exponent (exponent_text x) (λ read. option_map placeless_exponent read ≡ Some (placeless_exponent x)) × Before Closed Closed (exponent_text x)
+
+abbrev S-factor : Factor → Type 0
+S-factor x = (n : ℕ) → Fits (formed_factor x) (depth_factor x) n → (w : List ℕ) (more : List Factor) → Factors n w more → Factors n (factor_text x ++ w) (x ∷ more)
+
+abbrev S-power : Power → Type 0
+S-power x = (n : ℕ) → Fits (formed_power x) (depth_power x) n → Ruled Closed n r.power (power_text x) (λ read. placeless_power read ≡ placeless_power x)
+
+abbrev S-product : Product → Type 0
+S-product x = (n : ℕ) → Fits (formed_product x) (depth_product x) n → Ruled Closed n r.product (product_text x) (λ read. placeless_product read ≡ placeless_product x)
+
+abbrev S-value : Value → Type 0
+S-value x = (n : ℕ) → Fits (is_formed_value x) (depth_of_value x) n → Ruled Closed n r.value (value_text x) (λ read. plain_value read ≡ plain_value x)
+
+-- ---- Atoms
 
 abbrev AtomHolds : Atom-F Atom Addend Exponent Factor Power Product Value → Type 0
 AtomHolds (Atom-F.Number minus number) = Unit {0}
 AtomHolds (Atom-F.Name minus name) = Unit {0}
-AtomHolds (Atom-F.Bracketed minus at value) = P-value value
+AtomHolds (Atom-F.Bracketed minus at value) = S-value value
 
-atom_case : (x : Atom-F Atom Addend Exponent Factor Power Product Value) → AtomHolds x → P-atom (roll-Atom x)
-atom_case (Atom-F.Number minus number) holds formed =
-    let is : is_formed_number number ≡ true = sym (fold-roll-Atom Bool Bool Bool Bool Bool Bool Bool is_formed_atom (λ addend. addend.product) (λ exponent. exponent.atom) (λ factor. factor.power) is_formed_power (λ product. product.first && all_hold product.more) (λ value. value.first && all_hold value.more) (Atom-F.Number minus number)) ∙ formed in
-    subst Good (sym (fold-roll-Atom Text Text Text Text Text Text Text atom_step addend_step exponent_step factor_step power_step product_step value_step (Atom-F.Number minus number))) (minus_good minus (number_text number) (good_number number is))
-atom_case (Atom-F.Name minus name) holds formed =
-    let is : is_name name.name ≡ true = sym (fold-roll-Atom Bool Bool Bool Bool Bool Bool Bool is_formed_atom (λ addend. addend.product) (λ exponent. exponent.atom) (λ factor. factor.power) is_formed_power (λ product. product.first && all_hold product.more) (λ value. value.first && all_hold value.more) (Atom-F.Name minus name)) ∙ formed in
-    subst Good (sym (fold-roll-Atom Text Text Text Text Text Text Text atom_step addend_step exponent_step factor_step power_step product_step value_step (Atom-F.Name minus name))) (minus_good minus name.name (good_name name.name is))
-atom_case (Atom-F.Bracketed minus at value) holds formed =
-    let is : is_formed_value value ≡ true = sym (fold-roll-Atom Bool Bool Bool Bool Bool Bool Bool is_formed_atom (λ addend. addend.product) (λ exponent. exponent.atom) (λ factor. factor.power) is_formed_power (λ product. product.first && all_hold product.more) (λ value. value.first && all_hold value.more) (Atom-F.Bracketed minus at value)) ∙ formed in
-    subst Good (sym (fold-roll-Atom Text Text Text Text Text Text Text atom_step addend_step exponent_step factor_step power_step product_step value_step (Atom-F.Bracketed minus at value))) (minus_good minus (40 ∷ (value_text value ++ 41 ∷ [])) (in_brackets (value_text value) (holds is)))
+abbrev AtomFits : ℕ → Atom-F Atom Addend Exponent Factor Power Product Value → Type 0
+AtomFits n x = Fits (is_formed_atom (map-Atom Atom Addend Exponent Factor Power Product Value Bool Bool Bool Bool Bool Bool Bool formed_atom formed_addend formed_exponent formed_factor formed_power formed_product is_formed_value x)) (depth_of_atom (map-Atom Atom Addend Exponent Factor Power Product Value ℕ ℕ ℕ ℕ ℕ ℕ ℕ depth_atom depth_addend depth_exponent depth_factor depth_power depth_product depth_of_value x)) n
 
-pub sign_then : (c : ℕ) (w : List ℕ) → Good (c ∷ []) → Good w → Tail (32 ∷ c ∷ 32 ∷ w)
-sign_then c w sign good = tail_space (c ∷ 32 ∷ w) (good_then (c ∷ []) (32 ∷ w) sign (tail_space w good))
+abbrev AtomSpelled : ℕ → Atom-F Atom Addend Exponent Factor Power Product Value → Type 0
+AtomSpelled n x = Ruled Closed n r.atom (atom_step (map-Atom Atom Addend Exponent Factor Power Product Value Text Text Text Text Text Text Text atom_text addend_text exponent_text factor_text power_text product_text value_text x)) (λ read. placeless_atom read ≡ placeless_atom (roll-Atom x))
 
-add_sign_good : (sign : AddSign) (w : List ℕ) → Good w → Tail (add_sign_text sign ++ w)
-add_sign_good add_sign.Plus w good = sign_then 43 w (good_sign 43 (record { is = refl; kind = refl; no_blank = refl })) good
-add_sign_good add_sign.Minus w good = sign_then 45 w (good_sign 45 (record { is = refl; kind = refl; no_blank = refl })) good
+atom_by : (n : ℕ) (x : Atom-F Atom Addend Exponent Factor Power Product Value) → AtomHolds x → AtomFits n x → AtomSpelled n x
+atom_by n (Atom-F.Number None number) holds fits = record {
+  alternative = a.number_atom;
+  spelled = last_token (number_text number) (number_one number fits.is) (λ at. number_alike None None _ number refl (number_said number fits.is at));
+}
+atom_by n (Atom-F.Number (Some minus) number) holds fits = record {
+  alternative = a.minus_number;
+  spelled = token_then (45 ∷ []) (number_text number) word.minus_before (λ rest e. tt) (λ place.
+      last_token (number_text number) (number_one number fits.is) (λ at. number_alike (Some place) (Some minus) _ number refl (number_said number fits.is at)));
+}
+atom_by n (Atom-F.Name None name) holds fits = record {
+  alternative = a.name_atom;
+  spelled = last_token name.name (name_one name.name fits.is) (λ at. name_alike None None _ name refl refl);
+}
+atom_by n (Atom-F.Name (Some minus) name) holds fits = record {
+  alternative = a.minus_name;
+  spelled = token_then (45 ∷ []) name.name word.minus_before (λ rest e. tt) (λ place.
+      last_token name.name (name_one name.name fits.is) (λ at. name_alike (Some place) (Some minus) _ name refl refl));
+}
+atom_by n (Atom-F.Bracketed None at value) holds fits = record {
+  alternative = a.bracketed_atom;
+  spelled = in_round (value_text value) (may_open (is_formed_value value) (depth_of_value value) n fits) (holds (suc n) (inside (is_formed_value value) (depth_of_value value) n fits)) (λ bracket close v same.
+      bracketed_alike None None bracket at v value refl same);
+}
+atom_by n (Atom-F.Bracketed (Some minus) at value) holds fits = record {
+  alternative = a.minus_bracketed;
+  spelled = token_then (45 ∷ []) (40 ∷ (value_text value ++ 41 ∷ [])) word.minus_before (λ rest e. tt) (λ place.
+      in_round (value_text value) (may_open (is_formed_value value) (depth_of_value value) n fits) (holds (suc n) (inside (is_formed_value value) (depth_of_value value) n fits)) (λ bracket close v same.
+      bracketed_alike (Some place) (Some minus) bracket at v value refl same));
+}
 
-product_sign_good : (sign : ProductSign) (w : List ℕ) → Good w → Tail (product_sign_text sign ++ w)
-product_sign_good product_sign.Times w good = sign_then 42 w (good_sign 42 (record { is = refl; kind = refl; no_blank = refl })) good
-product_sign_good product_sign.Over w good = sign_then 47 w (good_sign 47 (record { is = refl; kind = refl; no_blank = refl })) good
-product_sign_good product_sign.Modulo w good = sign_then 37 w (good_sign 37 (record { is = refl; kind = refl; no_blank = refl })) good
+atom_case : (x : Atom-F Atom Addend Exponent Factor Power Product Value) → AtomHolds x → S-atom (roll-Atom x)
+atom_case x holds n fits =
+    let is : AtomFits n x = unrolled n (fold-roll-Atom Bool Bool Bool Bool Bool Bool Bool is_formed_atom (λ addend. addend.product) (λ exponent. exponent.atom) (λ factor. factor.power) is_formed_power (λ product. product.first && all_hold product.more) (λ value. value.first && all_hold value.more) x) (fold-roll-Atom ℕ ℕ ℕ ℕ ℕ ℕ ℕ depth_of_atom (λ addend. addend.product) (λ exponent. exponent.atom) (λ factor. factor.power) depth_of_power (λ product. max product.first (deepest product.more)) (λ value. max value.first (deepest value.more)) x) fits in
+    subst (λ (t : List ℕ). Ruled Closed n r.atom t (λ read. placeless_atom read ≡ placeless_atom (roll-Atom x))) (sym (fold-roll-Atom Text Text Text Text Text Text Text atom_step addend_step exponent_step factor_step power_step product_step value_step x)) (atom_by n x holds is)
 
-addend_case : (x : Addend-F Atom Addend Exponent Factor Power Product Value) → P-product x.product → P-addend (roll-Addend x)
-addend_case x holds formed =
-    let is : formed_product x.product ≡ true = sym (fold-roll-Addend Bool Bool Bool Bool Bool Bool Bool is_formed_atom (λ addend. addend.product) (λ exponent. exponent.atom) (λ factor. factor.power) is_formed_power (λ product. product.first && all_hold product.more) (λ value. value.first && all_hold value.more) x) ∙ formed in
-    subst Tail (sym (fold-roll-Addend Text Text Text Text Text Text Text atom_step addend_step exponent_step factor_step power_step product_step value_step x)) (add_sign_good x.sign (product_text x.product) (holds is))
+-- ---- Addends and factors
 
-exponent_case : (x : Exponent-F Atom Addend Exponent Factor Power Product Value) → P-atom x.atom → P-exponent (roll-Exponent x)
-exponent_case x holds formed =
-    let is : formed_atom x.atom ≡ true = sym (fold-roll-Exponent Bool Bool Bool Bool Bool Bool Bool is_formed_atom (λ addend. addend.product) (λ exponent. exponent.atom) (λ factor. factor.power) is_formed_power (λ product. product.first && all_hold product.more) (λ value. value.first && all_hold value.more) x) ∙ formed in
-    subst Tail (sym (fold-roll-Exponent Text Text Text Text Text Text Text atom_step addend_step exponent_step factor_step power_step product_step value_step x)) (sign_then 94 (atom_text x.atom) (good_sign 94 (record { is = refl; kind = refl; no_blank = refl })) (holds is))
+addend_by : (place : ℕ) (sign : AddSign) (q : Product) → S-product q → (n : ℕ) → Fits (formed_product q) (depth_product q) n → (w : List ℕ) (more : List Addend) → Addends n w more
+    → Addends n ((add_sign_text sign ++ product_text q) ++ w) (roll-Addend (record { at = place; sign = sign; product = q }) ∷ more)
+addend_by place add_sign.Plus q holds n fits w more rest = (
+  record {
+    alternative = a.plus;
+    spelled = blank_then 32 (43 ∷ 32 ∷ (product_text q ++ w)) refl (token_space (43 ∷ []) (product_text q ++ w) word.plus (λ at.
+        rule_then (product_text q) w (holds n fits) rest.1 (λ p same. last_rule w rest.0 (λ ps all. alike (addend_alike at place add_sign.Plus p q same) all))));
+  },
+  λ behind e. refl,
+)
+addend_by place add_sign.Minus q holds n fits w more rest = (
+  record {
+    alternative = a.minus;
+    spelled = blank_then 32 (45 ∷ 32 ∷ (product_text q ++ w)) refl (token_space (45 ∷ []) (product_text q ++ w) word.minus (λ at.
+        rule_then (product_text q) w (holds n fits) rest.1 (λ p same. last_rule w rest.0 (λ ps all. alike (addend_alike at place add_sign.Minus p q same) all))));
+  },
+  λ behind e. refl,
+)
 
-factor_case : (x : Factor-F Atom Addend Exponent Factor Power Product Value) → P-power x.power → P-factor (roll-Factor x)
-factor_case x holds formed =
-    let is : formed_power x.power ≡ true = sym (fold-roll-Factor Bool Bool Bool Bool Bool Bool Bool is_formed_atom (λ addend. addend.product) (λ exponent. exponent.atom) (λ factor. factor.power) is_formed_power (λ product. product.first && all_hold product.more) (λ value. value.first && all_hold value.more) x) ∙ formed in
-    subst Tail (sym (fold-roll-Factor Text Text Text Text Text Text Text atom_step addend_step exponent_step factor_step power_step product_step value_step x)) (product_sign_good x.sign (power_text x.power) (holds is))
+addend_case : (x : Addend-F Atom Addend Exponent Factor Power Product Value) → S-product x.product → S-addend (roll-Addend x)
+addend_case x holds n fits w more rest =
+    let is : Fits (formed_product x.product) (depth_product x.product) n = unrolled n (fold-roll-Addend Bool Bool Bool Bool Bool Bool Bool is_formed_atom (λ addend. addend.product) (λ exponent. exponent.atom) (λ factor. factor.power) is_formed_power (λ product. product.first && all_hold product.more) (λ value. value.first && all_hold value.more) x) (fold-roll-Addend ℕ ℕ ℕ ℕ ℕ ℕ ℕ depth_of_atom (λ addend. addend.product) (λ exponent. exponent.atom) (λ factor. factor.power) depth_of_power (λ product. max product.first (deepest product.more)) (λ value. max value.first (deepest value.more)) x) fits in
+    subst (λ (t : List ℕ). Addends n (t ++ w) (roll-Addend x ∷ more)) (sym (fold-roll-Addend Text Text Text Text Text Text Text atom_step addend_step exponent_step factor_step power_step product_step value_step x)) (addend_by x.at x.sign x.product holds n is w more rest)
+
+factor_by : (place : ℕ) (sign : ProductSign) (q : Power) → S-power q → (n : ℕ) → Fits (formed_power q) (depth_power q) n → (w : List ℕ) (more : List Factor) → Factors n w more
+    → Factors n ((product_sign_text sign ++ power_text q) ++ w) (roll-Factor (record { at = place; sign = sign; power = q }) ∷ more)
+factor_by place product_sign.Times q holds n fits w more rest = (
+  record {
+    alternative = a.times;
+    spelled = blank_then 32 (42 ∷ 32 ∷ (power_text q ++ w)) refl (token_space (42 ∷ []) (power_text q ++ w) word.times (λ at.
+        rule_then (power_text q) w (holds n fits) rest.1 (λ p same. last_rule w rest.0 (λ ps all. alike (factor_alike at place product_sign.Times p q same) all))));
+  },
+  λ behind e. refl,
+)
+factor_by place product_sign.Over q holds n fits w more rest = (
+  record {
+    alternative = a.over;
+    spelled = blank_then 32 (47 ∷ 32 ∷ (power_text q ++ w)) refl (token_space (47 ∷ []) (power_text q ++ w) word.over (λ at.
+        rule_then (power_text q) w (holds n fits) rest.1 (λ p same. last_rule w rest.0 (λ ps all. alike (factor_alike at place product_sign.Over p q same) all))));
+  },
+  λ behind e. refl,
+)
+factor_by place product_sign.Modulo q holds n fits w more rest = (
+  record {
+    alternative = a.modulo;
+    spelled = blank_then 32 (37 ∷ 32 ∷ (power_text q ++ w)) refl (token_space (37 ∷ []) (power_text q ++ w) word.modulo (λ at.
+        rule_then (power_text q) w (holds n fits) rest.1 (λ p same. last_rule w rest.0 (λ ps all. alike (factor_alike at place product_sign.Modulo p q same) all))));
+  },
+  λ behind e. refl,
+)
+
+factor_case : (x : Factor-F Atom Addend Exponent Factor Power Product Value) → S-power x.power → S-factor (roll-Factor x)
+factor_case x holds n fits w more rest =
+    let is : Fits (formed_power x.power) (depth_power x.power) n = unrolled n (fold-roll-Factor Bool Bool Bool Bool Bool Bool Bool is_formed_atom (λ addend. addend.product) (λ exponent. exponent.atom) (λ factor. factor.power) is_formed_power (λ product. product.first && all_hold product.more) (λ value. value.first && all_hold value.more) x) (fold-roll-Factor ℕ ℕ ℕ ℕ ℕ ℕ ℕ depth_of_atom (λ addend. addend.product) (λ exponent. exponent.atom) (λ factor. factor.power) depth_of_power (λ product. max product.first (deepest product.more)) (λ value. max value.first (deepest value.more)) x) fits in
+    subst (λ (t : List ℕ). Factors n (t ++ w) (roll-Factor x ∷ more)) (sym (fold-roll-Factor Text Text Text Text Text Text Text atom_step addend_step exponent_step factor_step power_step product_step value_step x)) (factor_by x.at x.sign x.power holds n is w more rest)
+
+-- ---- Exponents and powers
+
+abbrev ExponentSpelled : ℕ → List ℕ → Exponent → Type 0
+ExponentSpelled n w x = Ruled Closed n r.exponent w (λ read. option_map placeless_exponent read ≡ Some (placeless_exponent x)) × Before Closed Closed w
+
+exponent_case : (x : Exponent-F Atom Addend Exponent Factor Power Product Value) → S-atom x.atom → S-exponent (roll-Exponent x)
+exponent_case x holds n fits =
+    let is : Fits (formed_atom x.atom) (depth_atom x.atom) n = unrolled n (fold-roll-Exponent Bool Bool Bool Bool Bool Bool Bool is_formed_atom (λ addend. addend.product) (λ exponent. exponent.atom) (λ factor. factor.power) is_formed_power (λ product. product.first && all_hold product.more) (λ value. value.first && all_hold value.more) x) (fold-roll-Exponent ℕ ℕ ℕ ℕ ℕ ℕ ℕ depth_of_atom (λ addend. addend.product) (λ exponent. exponent.atom) (λ factor. factor.power) depth_of_power (λ product. max product.first (deepest product.more)) (λ value. max value.first (deepest value.more)) x) fits in
+    let spelled : ExponentSpelled n (32 ∷ 94 ∷ 32 ∷ atom_text x.atom) (roll-Exponent x) = (
+      record {
+        alternative = a.an_exponent;
+        spelled = blank_then 32 (94 ∷ 32 ∷ atom_text x.atom) refl (token_space (94 ∷ []) (atom_text x.atom) word.power (λ at.
+            last_rule (atom_text x.atom) (holds n is) (λ b same. ap Some (exponent_alike at x.at b x.atom same))));
+      },
+      λ behind e. refl,
+    ) in
+    subst (λ (t : List ℕ). ExponentSpelled n t (roll-Exponent x)) (sym (fold-roll-Exponent Text Text Text Text Text Text Text atom_step addend_step exponent_step factor_step power_step product_step value_step x)) spelled
 
 abbrev ExponentHolds : Option Exponent → Type 0
 ExponentHolds None = Unit {0}
-ExponentHolds (Some exponent) = P-exponent exponent
+ExponentHolds (Some exponent) = S-exponent exponent
 
-power_by : (base : Atom) (exponent : Option Exponent) → P-atom base → ExponentHolds exponent → P-power (roll-Power (record { base = base; exponent = exponent }))
-power_by base None holds more formed =
-    let is : (formed_atom base && true) ≡ true = sym (fold-roll-Power Bool Bool Bool Bool Bool Bool Bool is_formed_atom (λ addend. addend.product) (λ exponent. exponent.atom) (λ factor. factor.power) is_formed_power (λ product. product.first && all_hold product.more) (λ value. value.first && all_hold value.more) (record { base = base; exponent = None })) ∙ formed in
-    let both = and_parts (formed_atom base) true is in
-    subst Good (sym (fold-roll-Power Text Text Text Text Text Text Text atom_step addend_step exponent_step factor_step power_step product_step value_step (record { base = base; exponent = None })))
-    (good_then (atom_text base) [] (holds both.0) tail_nil)
-power_by base (Some exponent) holds more formed =
-    let is : (formed_atom base && formed_exponent exponent) ≡ true = sym (fold-roll-Power Bool Bool Bool Bool Bool Bool Bool is_formed_atom (λ addend. addend.product) (λ exponent. exponent.atom) (λ factor. factor.power) is_formed_power (λ product. product.first && all_hold product.more) (λ value. value.first && all_hold value.more) (record { base = base; exponent = Some exponent })) ∙ formed in
-    let both = and_parts (formed_atom base) (formed_exponent exponent) is in
-    subst Good (sym (fold-roll-Power Text Text Text Text Text Text Text atom_step addend_step exponent_step factor_step power_step product_step value_step (record { base = base; exponent = Some exponent })))
-    (good_then (atom_text base) (exponent_text exponent) (holds both.0) (more both.1))
+no_exponent : (n : ℕ) → Ruled Closed n r.exponent [] (λ read. option_map placeless_exponent read ≡ None)
+no_exponent n = record { alternative = a.no_exponent; spelled = nothing refl }
 
-power_case : (x : Power-F Atom Addend Exponent Factor Power Product Value) → P-atom x.base → ExponentHolds x.exponent → P-power (roll-Power x)
+abbrev PowerSpelled : ℕ → List ℕ → Power → Type 0
+PowerSpelled n w x = Ruled Closed n r.power w (λ read. placeless_power read ≡ placeless_power x)
+
+power_by : (base : Atom) (exponent : Option Exponent) → S-atom base → ExponentHolds exponent → S-power (roll-Power (record { base = base; exponent = exponent }))
+power_by base None holds more n fits =
+    let is : Fits (formed_atom base && true) (max (depth_atom base) 0) n = unrolled n (fold-roll-Power Bool Bool Bool Bool Bool Bool Bool is_formed_atom (λ addend. addend.product) (λ exponent. exponent.atom) (λ factor. factor.power) is_formed_power (λ product. product.first && all_hold product.more) (λ value. value.first && all_hold value.more) (record { base = base; exponent = None })) (fold-roll-Power ℕ ℕ ℕ ℕ ℕ ℕ ℕ depth_of_atom (λ addend. addend.product) (λ exponent. exponent.atom) (λ factor. factor.power) depth_of_power (λ product. max product.first (deepest product.more)) (λ value. max value.first (deepest value.more)) (record { base = base; exponent = None })) fits in
+    let both = both_fit (formed_atom base) true (depth_atom base) 0 n is in
+    let spelled : PowerSpelled n (atom_text base ++ []) (roll-Power (record { base = base; exponent = None })) = record {
+      alternative = a.power_of;
+      spelled = rule_then (atom_text base) [] (holds n both.0) (λ rest e. e) (λ b same. last_rule [] (no_exponent n) (λ e none. power_alike b base e None same none));
+    } in
+    subst (λ (t : List ℕ). PowerSpelled n t (roll-Power (record { base = base; exponent = None }))) (sym (fold-roll-Power Text Text Text Text Text Text Text atom_step addend_step exponent_step factor_step power_step product_step value_step (record { base = base; exponent = None }))) spelled
+power_by base (Some exponent) holds more n fits =
+    let is : Fits (formed_atom base && formed_exponent exponent) (max (depth_atom base) (depth_exponent exponent)) n =
+    unrolled n (fold-roll-Power Bool Bool Bool Bool Bool Bool Bool is_formed_atom (λ addend. addend.product) (λ exponent. exponent.atom) (λ factor. factor.power) is_formed_power (λ product. product.first && all_hold product.more) (λ value. value.first && all_hold value.more) (record { base = base; exponent = Some exponent })) (fold-roll-Power ℕ ℕ ℕ ℕ ℕ ℕ ℕ depth_of_atom (λ addend. addend.product) (λ exponent. exponent.atom) (λ factor. factor.power) depth_of_power (λ product. max product.first (deepest product.more)) (λ value. max value.first (deepest value.more)) (record { base = base; exponent = Some exponent })) fits in
+    let both = both_fit (formed_atom base) (formed_exponent exponent) (depth_atom base) (depth_exponent exponent) n is in
+    let raised = more n both.1 in
+    let spelled : PowerSpelled n (atom_text base ++ exponent_text exponent) (roll-Power (record { base = base; exponent = Some exponent })) = record {
+      alternative = a.power_of;
+      spelled = rule_then (atom_text base) (exponent_text exponent) (holds n both.0) raised.1 (λ b same. last_rule (exponent_text exponent) raised.0 (λ e some. power_alike b base e (Some exponent) same some));
+    } in
+    subst (λ (t : List ℕ). PowerSpelled n t (roll-Power (record { base = base; exponent = Some exponent }))) (sym (fold-roll-Power Text Text Text Text Text Text Text atom_step addend_step exponent_step factor_step power_step product_step value_step (record { base = base; exponent = Some exponent }))) spelled
+
+power_case : (x : Power-F Atom Addend Exponent Factor Power Product Value) → S-atom x.base → ExponentHolds x.exponent → S-power (roll-Power x)
 power_case x base exponent = power_by x.base x.exponent base exponent
 
-product_case : (x : Product-F Atom Addend Exponent Factor Power Product Value) → P-power x.first → AllByRecursion P-factor x.more → P-product (roll-Product x)
-product_case x first more formed =
-    let is : (formed_power x.first && all_hold (map formed_factor x.more)) ≡ true = sym (fold-roll-Product Bool Bool Bool Bool Bool Bool Bool is_formed_atom (λ addend. addend.product) (λ exponent. exponent.atom) (λ factor. factor.power) is_formed_power (λ product. product.first && all_hold product.more) (λ value. value.first && all_hold value.more) x) ∙ formed in
-    let both = and_parts (formed_power x.first) _ is in
-    subst Good (sym (fold-roll-Product Text Text Text Text Text Text Text atom_step addend_step exponent_step factor_step power_step product_step value_step x))
-    (good_then (power_text x.first) _ (first both.0) (tails formed_factor factor_text x.more more both.1))
+-- ---- Products and values
 
-value_case : (x : Value-F Atom Addend Exponent Factor Power Product Value) → P-product x.first → AllByRecursion P-addend x.more → P-value (roll-Value x)
-value_case x first more formed =
-    let is : (formed_product x.first && all_hold (map formed_addend x.more)) ≡ true = sym (fold-roll-Value Bool Bool Bool Bool Bool Bool Bool is_formed_atom (λ addend. addend.product) (λ exponent. exponent.atom) (λ factor. factor.power) is_formed_power (λ product. product.first && all_hold product.more) (λ value. value.first && all_hold value.more) x) ∙ formed in
-    let both = and_parts (formed_product x.first) _ is in
-    subst Good (sym (fold-roll-Value Text Text Text Text Text Text Text atom_step addend_step exponent_step factor_step power_step product_step value_step x))
-    (good_then (product_text x.first) _ (first both.0) (tails formed_addend addend_text x.more more both.1))
+abbrev ProductSpelled : ℕ → List ℕ → Product → Type 0
+ProductSpelled n w x = Ruled Closed n r.product w (λ read. placeless_product read ≡ placeless_product x)
+
+product_case : (x : Product-F Atom Addend Exponent Factor Power Product Value) → S-power x.first → AllByRecursion S-factor x.more → S-product (roll-Product x)
+product_case x first more n fits =
+    let is : Fits (formed_power x.first && all_hold (map formed_factor x.more)) (max (depth_power x.first) (deepest (map depth_factor x.more))) n = unrolled n (fold-roll-Product Bool Bool Bool Bool Bool Bool Bool is_formed_atom (λ addend. addend.product) (λ exponent. exponent.atom) (λ factor. factor.power) is_formed_power (λ product. product.first && all_hold product.more) (λ value. value.first && all_hold value.more) x) (fold-roll-Product ℕ ℕ ℕ ℕ ℕ ℕ ℕ depth_of_atom (λ addend. addend.product) (λ exponent. exponent.atom) (λ factor. factor.power) depth_of_power (λ product. max product.first (deepest product.more)) (λ value. max value.first (deepest value.more)) x) fits in
+    let both = both_fit (formed_power x.first) (all_hold (map formed_factor x.more)) (depth_power x.first) (deepest (map depth_factor x.more)) n is in
+    let rest = chain formed_factor depth_factor factor_text n Factors (no_factors n) x.more more both.1 in
+    let spelled : ProductSpelled n (power_text x.first ++ concat (map factor_text x.more)) (roll-Product x) = record {
+      alternative = a.product_of;
+      spelled = rule_then (power_text x.first) (concat (map factor_text x.more)) (first n both.0) rest.1 (λ p same.
+          last_rule (concat (map factor_text x.more)) rest.0 (λ ps all. product_alike p x.first ps x.more same all));
+    } in
+    subst (λ (t : List ℕ). ProductSpelled n t (roll-Product x)) (sym (fold-roll-Product Text Text Text Text Text Text Text atom_step addend_step exponent_step factor_step power_step product_step value_step x)) spelled
+
+abbrev ValueSpelled : ℕ → List ℕ → Value → Type 0
+ValueSpelled n w x = Ruled Closed n r.value w (λ read. plain_value read ≡ plain_value x)
+
+value_case : (x : Value-F Atom Addend Exponent Factor Power Product Value) → S-product x.first → AllByRecursion S-addend x.more → S-value (roll-Value x)
+value_case x first more n fits =
+    let is : Fits (formed_product x.first && all_hold (map formed_addend x.more)) (max (depth_product x.first) (deepest (map depth_addend x.more))) n = unrolled n (fold-roll-Value Bool Bool Bool Bool Bool Bool Bool is_formed_atom (λ addend. addend.product) (λ exponent. exponent.atom) (λ factor. factor.power) is_formed_power (λ product. product.first && all_hold product.more) (λ value. value.first && all_hold value.more) x) (fold-roll-Value ℕ ℕ ℕ ℕ ℕ ℕ ℕ depth_of_atom (λ addend. addend.product) (λ exponent. exponent.atom) (λ factor. factor.power) depth_of_power (λ product. max product.first (deepest product.more)) (λ value. max value.first (deepest value.more)) x) fits in
+    let both = both_fit (formed_product x.first) (all_hold (map formed_addend x.more)) (depth_product x.first) (deepest (map depth_addend x.more)) n is in
+    let rest = chain formed_addend depth_addend addend_text n Addends (no_addends n) x.more more both.1 in
+    let spelled : ValueSpelled n (product_text x.first ++ concat (map addend_text x.more)) (roll-Value x) = record {
+      alternative = a.value_of;
+      spelled = rule_then (product_text x.first) (concat (map addend_text x.more)) (first n both.0) rest.1 (λ p same.
+          last_rule (concat (map addend_text x.more)) rest.0 (λ ps all. value_alike p x.first ps x.more same all));
+    } in
+    subst (λ (t : List ℕ). ValueSpelled n t (roll-Value x)) (sym (fold-roll-Value Text Text Text Text Text Text Text atom_step addend_step exponent_step factor_step power_step product_step value_step x)) spelled
 
 -- ---- All values
 
-abbrev AtomSuch : Atom-F ((x : Atom) × P-atom x) ((x : Addend) × P-addend x) ((x : Exponent) × P-exponent x) ((x : Factor) × P-factor x) ((x : Power) × P-power x) ((x : Product) × P-product x) ((x : Value) × P-value x) → Type 0
+abbrev AtomSuch : Atom-F ((x : Atom) × S-atom x) ((x : Addend) × S-addend x) ((x : Exponent) × S-exponent x) ((x : Factor) × S-factor x) ((x : Power) × S-power x) ((x : Product) × S-product x) ((x : Value) × S-value x) → Type 0
 AtomSuch y = AtomHolds (map-Atom _ _ _ _ _ _ _ Atom Addend Exponent Factor Power Product Value (λ e. e.0) (λ e. e.0) (λ e. e.0) (λ e. e.0) (λ e. e.0) (λ e. e.0) (λ e. e.0) y)
 
-atom_such : (y : Atom-F ((x : Atom) × P-atom x) ((x : Addend) × P-addend x) ((x : Exponent) × P-exponent x) ((x : Factor) × P-factor x) ((x : Power) × P-power x) ((x : Product) × P-product x) ((x : Value) × P-value x)) → AtomSuch y
+atom_such : (y : Atom-F ((x : Atom) × S-atom x) ((x : Addend) × S-addend x) ((x : Exponent) × S-exponent x) ((x : Factor) × S-factor x) ((x : Power) × S-power x) ((x : Product) × S-product x) ((x : Value) × S-value x)) → AtomSuch y
 atom_such (Atom-F.Number minus number) = tt
 atom_such (Atom-F.Name minus name) = tt
 atom_such (Atom-F.Bracketed minus at value) = value.1
 
-abbrev PowerSuch : Power-F ((x : Atom) × P-atom x) ((x : Addend) × P-addend x) ((x : Exponent) × P-exponent x) ((x : Factor) × P-factor x) ((x : Power) × P-power x) ((x : Product) × P-product x) ((x : Value) × P-value x) → Type 0
+abbrev PowerSuch : Power-F ((x : Atom) × S-atom x) ((x : Addend) × S-addend x) ((x : Exponent) × S-exponent x) ((x : Factor) × S-factor x) ((x : Power) × S-power x) ((x : Product) × S-product x) ((x : Value) × S-value x) → Type 0
 PowerSuch y = ExponentHolds (map-Power _ _ _ _ _ _ _ Atom Addend Exponent Factor Power Product Value (λ e. e.0) (λ e. e.0) (λ e. e.0) (λ e. e.0) (λ e. e.0) (λ e. e.0) (λ e. e.0) y).exponent
 
-power_such_by : (base : (x : Atom) × P-atom x) (exponent : Option ((x : Exponent) × P-exponent x)) → PowerSuch (record { base = base; exponent = exponent })
+power_such_by : (base : (x : Atom) × S-atom x) (exponent : Option ((x : Exponent) × S-exponent x)) → PowerSuch (record { base = base; exponent = exponent })
 power_such_by base None = tt
 power_such_by base (Some exponent) = exponent.1
 
-pub value_good : (value : Value) → P-value value
-value_good = ind-Value P-atom P-addend P-exponent P-factor P-power P-product P-value
+pub value_spelled : (value : Value) → S-value value
+value_spelled = ind-Value S-atom S-addend S-exponent S-factor S-power S-product S-value
     (λ x y is. atom_case x (subst AtomHolds is (atom_such y)))
-    (λ x y is. addend_case x (subst (λ z. P-product z.product) is y.product.1))
-    (λ x y is. exponent_case x (subst (λ z. P-atom z.atom) is y.atom.1))
-    (λ x y is. factor_case x (subst (λ z. P-power z.power) is y.power.1))
-    (λ x y is. power_case x (subst (λ z. P-atom z.base) is y.base.1) (subst (λ z. ExponentHolds z.exponent) is (power_such_by y.base y.exponent)))
-    (λ x y is. product_case x (subst (λ z. P-power z.first) is y.first.1) (subst (λ z. AllByRecursion P-factor z.more) is (each P-factor y.more)))
-    (λ x y is. value_case x (subst (λ z. P-product z.first) is y.first.1) (subst (λ z. AllByRecursion P-addend z.more) is (each P-addend y.more)))
-
--- ---- Bounds
-
-pub two_then : (c : ℕ) (w : List ℕ) → Good (c ∷ 61 ∷ []) → Good w → Tail (32 ∷ c ∷ 61 ∷ 32 ∷ w)
-two_then c w sign good = tail_space (c ∷ 61 ∷ 32 ∷ w) (good_then (c ∷ 61 ∷ []) (32 ∷ w) sign (tail_space w good))
-
-below_good : (sign : Below) (w : List ℕ) → Good w → Tail (below_text sign ++ w)
-below_good below.Less w good = sign_then 60 w (good_sign 60 (record { is = refl; kind = refl; no_blank = refl })) good
-below_good below.LessOrEqual w good = two_then 60 w (good_double 60 refl refl refl) good
-
-above_good : (sign : Above) (w : List ℕ) → Good w → Tail (above_text sign ++ w)
-above_good above.Greater w good = sign_then 62 w (good_sign 62 (record { is = refl; kind = refl; no_blank = refl })) good
-above_good above.GreaterOrEqual w good = two_then 62 w (good_double 62 refl refl refl) good
-
-pub bound_good : (bound : Bound) → is_formed_bound bound ≡ true → Tail (bound_text bound)
-bound_good bound formed = below_good bound.sign (value_text bound.value) (value_good bound.value formed)
-
-upper_good : (bound : Option Bound) → option_map_or is_formed_bound bound true ≡ true → Tail (upper_text bound)
-upper_good None formed = tail_nil
-upper_good (Some bound) formed = bound_good bound formed
-
-pub limits_good : (those : Limits) → is_formed_limits those ≡ true → Tail (limits_text those)
-limits_good (limits.Below bound) formed = bound_good bound formed
-limits_good (limits.Equal value) formed = two_then 61 (value_text value) (good_double 61 refl refl refl) (value_good value formed)
-limits_good (limits.NotEqual value) formed = two_then 33 (value_text value) (good_double 33 refl refl refl) (value_good value formed)
-limits_good (limits.Above sign value bound) formed =
-    let both = and_parts (is_formed_value value) (option_map_or is_formed_bound bound true) formed in
-    above_good sign (value_text value ++ upper_text bound) (good_then (value_text value) (upper_text bound) (value_good value both.0) (upper_good bound both.1))
+    (λ x y is. addend_case x (subst (λ z. S-product z.product) is y.product.1))
+    (λ x y is. exponent_case x (subst (λ z. S-atom z.atom) is y.atom.1))
+    (λ x y is. factor_case x (subst (λ z. S-power z.power) is y.power.1))
+    (λ x y is. power_case x (subst (λ z. S-atom z.base) is y.base.1) (subst (λ z. ExponentHolds z.exponent) is (power_such_by y.base y.exponent)))
+    (λ x y is. product_case x (subst (λ z. S-power z.first) is y.first.1) (subst (λ z. AllByRecursion S-factor z.more) is (each S-factor y.more)))
+    (λ x y is. value_case x (subst (λ z. S-product z.first) is y.first.1) (subst (λ z. AllByRecursion S-addend z.more) is (each S-addend y.more)))

@@ -1,5 +1,5 @@
-use Rattle.deck_round.proofs.Lines.{canonical_has_tokens}
+use Rattle.deck_round.proofs.Decks.{spelled_so}
 use Rattle.deck_round.proofs.laws.canonical_text_has_tokens.Goals as goal
 
 pub returns : goal.returns
-returns c = canonical_has_tokens
+returns c deck formed = let spelled = (spelled_so deck formed).1 in (spelled.tokens, spelled.lexing)
