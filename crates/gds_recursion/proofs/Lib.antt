@@ -1,0 +1,3 @@
+pub mod Using
+pub mod Circles
+pub mod Backward
