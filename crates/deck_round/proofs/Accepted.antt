@@ -1,6 +1,5 @@
 -- The canonical text of a deck that lacks nothing is accepted.
-use Rattle.std.proofs.Common.{◌≡◌, ◌≤◌, List, [], ◌∷◌, ◌++◌, map, length, Contains, Option, Some, None, refl, sym, ap, subst, ◌∙◌}
-use Rattle.std.specs.List.{filter_map}
+use Rattle.std.proofs.Common.{◌≡◌, ◌≤◌, List, [], ◌∷◌, ◌++◌, map, length, Contains, Some, refl, sym, ap, subst, ◌∙◌}
 use Rattle.deck_tree.specs.declared.statement.Statement.{Statement}
 use Rattle.deck_tree.specs.declared.statement.Statement.TheVariants as statement
 use Rattle.deck_tree.specs.declared.refusal.Single.{Single}

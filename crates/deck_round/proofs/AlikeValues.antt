@@ -1,35 +1,23 @@
 -- Values whose parts are equal but for places are equal but for places.
-use Rattle.std.proofs.Common.{◌≡◌, ℕ, suc, max, Bool, true, ◌&&◌, List, [], ◌∷◌, ◌++◌, map, Option, Some, None, refl, sym, ap, subst, ◌∙◌}
-use Rattle.std.specs.List.{concat, AllByRecursion}
-use Rattle.std.specs.Option.{option_map, option_map_or}
+use Rattle.std.proofs.Common.{◌≡◌, ℕ, List, ◌∷◌, map, Option, Some, None, sym, ap, ◌∙◌}
+use Rattle.std.specs.Option.{option_map}
 use Rattle.deck_tree.specs.declared.name_at.NameAt.{NameAt}
 use Rattle.deck_tree.specs.declared.number.Number.{Number}
 use Rattle.deck_tree.specs.declared.value.AddSign.{AddSign}
-use Rattle.deck_tree.specs.declared.value.AddSign.TheVariants as add_sign
 use Rattle.deck_tree.specs.declared.value.ProductSign.{ProductSign}
-use Rattle.deck_tree.specs.declared.value.ProductSign.TheVariants as product_sign
 use Rattle.deck_tree.specs.declared.value.Atom.{Atom, roll-Atom}
 use Rattle.deck_tree.specs.declared.value.Atom.TheVariants as atoms
 use Rattle.deck_tree.specs.declared.value.Atom.TheVariants.{rolls-Number, rolls-Name, rolls-Bracketed}
-use Rattle.deck_tree.specs.declared.value.Atom.TheOpen.{Atom-F, Addend-F, Exponent-F, Factor-F, Power-F, Product-F, Value-F}
-use Rattle.deck_tree.specs.declared.value.Atom.TheFolds.{fold-Atom, fold-Addend, fold-Exponent, fold-Factor, fold-Power, fold-Product, fold-roll-Atom, fold-roll-Addend, fold-roll-Exponent, fold-roll-Factor, fold-roll-Power, fold-roll-Product, fold-roll-Value, ind-Value, map-Atom, map-Power}
+use Rattle.deck_tree.specs.declared.value.Atom.TheOpen.{Atom-F}
+use Rattle.deck_tree.specs.declared.value.Atom.TheFolds.{fold-roll-Addend, fold-roll-Exponent, fold-roll-Factor, fold-roll-Power, fold-roll-Product, fold-roll-Value}
 use Rattle.deck_tree.specs.declared.value.Addend.{Addend, roll-Addend}
 use Rattle.deck_tree.specs.declared.value.Exponent.{Exponent, roll-Exponent}
 use Rattle.deck_tree.specs.declared.value.Factor.{Factor, roll-Factor}
 use Rattle.deck_tree.specs.declared.value.Power.{Power, roll-Power}
 use Rattle.deck_tree.specs.declared.value.Product.{Product, roll-Product}
 use Rattle.deck_tree.specs.declared.value.Value.{Value, roll-Value}
-use Rattle.deck_tree.specs.WellFormed.{all_hold, is_formed_atom, is_formed_power, is_formed_value, deepest, depth_of_atom, depth_of_power, depth_of_value}
 use Rattle.deck_tree.specs.Plain.{plain_name, plain_number, plain_place, plain_atom, plain_addend, plain_exponent, plain_factor, plain_value}
-use Rattle.deck_grammar.specs.Rules as r
-use Rattle.deck_grammar.specs.Alternatives as a
-use Rattle.deck_printer.specs.Values.{Text, atom_step, exponent_step, power_step, product_sign_text, factor_step, product_step, add_sign_text, addend_step, value_step, atom_text, addend_text, exponent_text, factor_text, power_text, product_text, value_text, number_text}
-use Rattle.deck_round.proofs.Levels.{Fits, unrolled, both_fit, inside, may_open}
-use Rattle.deck_round.proofs.Lexing.{Closed, Before}
-use Rattle.deck_round.proofs.Parts.{Ruled, nothing, blank_then, token_then, rule_then, last_token, last_rule, in_round, token_space}
-use Rattle.deck_round.proofs.Keywords as word
-use Rattle.deck_round.proofs.Marks.{name_one, number_one, number_said}
-use Rattle.deck_round.proofs.Places.{placeless_atom, placeless_addend, placeless_exponent, placeless_factor, placeless_power, placeless_product, atom_bare, each}
+use Rattle.deck_round.proofs.Places.{placeless_atom, placeless_addend, placeless_exponent, placeless_factor, placeless_power, placeless_product, atom_bare}
 
 pub alike : {A : Type 0} {x y : A} {xs ys : List A} → x ≡ y → xs ≡ ys → (x ∷ xs) ≡ (y ∷ ys)
 alike {A} {x} {y} {xs} {ys} first more = ap (λ (z : A). z ∷ xs) first ∙ ap (λ (zs : List A). y ∷ zs) more

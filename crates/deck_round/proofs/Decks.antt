@@ -1,5 +1,5 @@
 -- The canonical text of a deck is spelled as the deck, and as no other.
-use Rattle.std.proofs.Common.{◌≡◌, ℕ, ◌+◌, ◌≤◌, List, [], ◌++◌, length, map, refl, sym, ap, subst, ◌∙◌, append-nil, arith}
+use Rattle.std.proofs.Common.{◌≡◌, ℕ, ◌+◌, ◌≤◌, List, [], ◌++◌, length, map, sym, ap, subst, ◌∙◌, append-nil, arith}
 use Rattle.deck_tree.specs.declared.statement.Statement.{Statement}
 use Rattle.deck_tree.specs.declared.deck.Deck.{Deck}
 use Rattle.deck_tree.specs.Plain.{plain_statement, plain}

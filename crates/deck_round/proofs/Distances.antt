@@ -16,15 +16,15 @@ use Rattle.deck_tree.specs.declared.distance.Gap.{Gap}
 use Rattle.deck_tree.specs.declared.distance.Gap.TheVariants as gaps
 use Rattle.deck_tree.specs.declared.distance.Options.{Options}
 use Rattle.deck_tree.specs.declared.distance.Distance.{Distance}
-use Rattle.deck_tree.specs.WellFormed.{is_formed_value, is_formed_bound, is_formed_input, is_bracketed, has_its_inputs, is_external_of_one, brackets_fit, is_formed_distance, depth_of_value, depth_of_bound, depth_of_distance}
+use Rattle.deck_tree.specs.WellFormed.{is_formed_value, is_formed_bound, is_formed_input, is_bracketed, has_its_inputs, is_external_of_one, is_formed_distance, depth_of_value, depth_of_bound, depth_of_distance}
 use Rattle.deck_tree.specs.Plain.{plain_value, plain_bound, plain_input, plain_options, plain_distance}
 use Rattle.deck_grammar.specs.declared.kind.Kind.TheVariants as kinds
 use Rattle.deck_grammar.specs.declared.sign.Sign.TheVariants as s
-use Rattle.deck_grammar.specs.Lexemes.{Lexeme, lexeme, name_of, at}
+use Rattle.deck_grammar.specs.Lexemes.{Lexeme, lexeme, name_of}
 use Rattle.deck_grammar.specs.Rules as r
 use Rattle.deck_grammar.specs.Alternatives as a
 use Rattle.deck_printer.specs.Values.{value_text, bound_text}
-use Rattle.deck_printer.specs.Layers.{input_text, second_text, abut_text, singular_text, metric_text, gap_text, region_text, options_text, distance_text}
+use Rattle.deck_printer.specs.Layers.{input_text, second_text, abut_text, singular_text, metric_text, gap_text, region_text, options_text}
 use Rattle.deck_round.proofs.Levels.{Fits, both_fit}
 use Rattle.deck_round.proofs.Lexing.{Closed, Before, before_then}
 use Rattle.deck_round.proofs.Parts.{Spelled, Ruled, nothing, blank_then, token_then, rule_then, last_rule, token_space}

@@ -1,5 +1,5 @@
 -- The deck of a text is well formed.
-use Rattle.std.proofs.Common.{◌≡◌, ℕ, suc, ◌+◌, ◌-◌, ◌≤◌, List, [], ◌∷◌, ◌++◌, map, length, Ok, None, refl, sym, ap, subst, ◌∙◌, arith, append_assoc}
+use Rattle.std.proofs.Common.{◌≡◌, ℕ, suc, ◌≤◌, List, [], ◌∷◌, ◌++◌, length, Ok, None, refl, sym, ap, subst, ◌∙◌, arith, append_assoc}
 use Rattle.deck_tree.specs.declared.deck.Deck.{Deck}
 use Rattle.deck_tree.specs.declared.statement.Statement.{Statement}
 use Rattle.deck_tree.specs.WellFormed.{IsWellFormed, most_nested}

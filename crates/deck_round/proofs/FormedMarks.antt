@@ -1,20 +1,17 @@
 -- Names, numbers, files and notes of a text are formed.
-use Rattle.std.proofs.Common.{◌≡◌, ℕ, suc, ◌+◌, ◌-◌, ◌<◌, ◌≤◌, Bool, true, false, not, ◌&&◌, ◌||◌, eqb, List, [], ◌∷◌, ◌++◌, length, take, drop, reverse, refl, sym, ap, subst, ◌∙◌, inl, inr, arith, append-nil, append_assoc, length-append}
-use Rattle.std.specs.Prelude.{nat_le}
+use Rattle.std.proofs.Common.{◌≡◌, ℕ, ◌+◌, ◌-◌, Bool, true, false, not, ◌&&◌, List, [], ◌∷◌, ◌++◌, length, take, drop, reverse, refl, sym, ap, subst, ◌∙◌, inl, inr, arith, append-nil, append_assoc, length-append}
 use Rattle.std.specs.List.{list_all, prefix_len}
-use Rattle.std.specs.Char.{is_ascii_alphabetic}
-use Rattle.std.proofs.lemmas.Bool.{and_parts, and_from, cases_Bool, false≢true}
+use Rattle.std.proofs.lemmas.Bool.{and_parts, and_from, false≢true}
 use Rattle.std.proofs.lemmas.Bool.Decides.{nat_tests}
 use Rattle.std.proofs.lemmas.List.{take_at, drop_at, drop_all, reverse-append, reverse-reverse, length-reverse, take-append-drop}
 use Rattle.std.proofs.lemmas.List.Folds.{length-prefix_len}
-use Rattle.std.proofs.lemmas.List.Sums.{prefix_len-le-length}
 use Rattle.deck_tree.specs.Words.{is_keyword, is_name, is_file, is_whole, is_fraction, is_note, ends_note, begins_name, continues_word, is_text_byte}
 use Rattle.deck_tree.specs.WellFormed.{is_formed_file, is_formed_number}
 use Rattle.deck_lexer.specs.Bytes.{is_digit, is_in_line}
 use Rattle.deck_lexer.specs.Tokens.{IsNumber, IsText, IsNote}
 use Rattle.deck_lexer.proofs.Spans.{Stops, span_len, span_stops}
 use Rattle.deck_grammar.specs.declared.kind.Kind.TheVariants as kinds
-use Rattle.deck_grammar.specs.Lexemes.{lexeme, name_of, file_of, number_of, note_of, note_text, without_quotes, without_first, without_last, before_point, behind_point, at_least_zero, is_zero, is_no_point, is_note_blank}
+use Rattle.deck_grammar.specs.Lexemes.{lexeme, file_of, number_of, note_text, without_quotes, without_first, without_last, before_point, behind_point, at_least_zero, is_zero, is_no_point, is_note_blank}
 use Rattle.deck_round.proofs.Marks.{quotes_off, digits_no_point, EndsOutside}
 
 all_front : (test : ℕ → Bool) (a b : List ℕ) → list_all test (a ++ b) ≡ true → list_all test a ≡ true

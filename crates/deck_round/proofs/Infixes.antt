@@ -1,51 +1,22 @@
 -- The words of operations are spelled by the grammar as they are.
-use Rattle.std.proofs.Common.{◌≡◌, ℕ, suc, max, Bool, true, false, ◌&&◌, List, [], ◌∷◌, ◌++◌, map, Option, Some, None, refl, sym, ap, subst, ◌∙◌, append_assoc}
+use Rattle.std.proofs.Common.{◌≡◌, ℕ, true, false, Option, Some, None, refl}
 use Rattle.std.specs.Prelude.{codes}
-use Rattle.std.specs.List.{concat, AllByRecursion}
-use Rattle.deck_tree.specs.declared.name_at.NameAt.{NameAt}
-use Rattle.deck_tree.specs.declared.value.Value.{Value}
-use Rattle.deck_tree.specs.declared.limits.Limits.{Limits}
 use Rattle.deck_tree.specs.declared.infix.Infix.{Infix}
 use Rattle.deck_tree.specs.declared.infix.Infix.TheVariants as infixes
 use Rattle.deck_tree.specs.declared.infix.Relation.{Relation}
 use Rattle.deck_tree.specs.declared.infix.Relation.TheVariants as relations
-use Rattle.deck_tree.specs.declared.infix.EdgeRelation.{EdgeRelation}
 use Rattle.deck_tree.specs.declared.infix.EdgeRelation.TheVariants as edge_relations
-use Rattle.deck_tree.specs.declared.distance.DistanceKind.{DistanceKind}
-use Rattle.deck_tree.specs.declared.distance.DistanceKind.TheVariants as distance_kinds
-use Rattle.deck_tree.specs.declared.distance.Distance.{Distance}
-use Rattle.deck_tree.specs.declared.distance.Input.{Input}
-use Rattle.deck_tree.specs.declared.distance.Options.{Options}
-use Rattle.deck_tree.specs.declared.limits.Bound.{Bound}
 use Rattle.deck_tree.specs.declared.layer.Turn.{Turn}
 use Rattle.deck_tree.specs.declared.layer.Turn.TheVariants as turns
-use Rattle.deck_tree.specs.declared.layer.ExpandSide.{ExpandSide}
 use Rattle.deck_tree.specs.declared.layer.ExpandSide.TheVariants as sides
-use Rattle.deck_tree.specs.declared.layer.Prefix.{Prefix, roll-Prefix}
-use Rattle.deck_tree.specs.declared.layer.Prefix.TheVariants as prefixes
-use Rattle.deck_tree.specs.declared.layer.Prefix.TheOpen.{Prefix-F, Primary-F, Term-F, Layer-F, Operation-F}
-use Rattle.deck_tree.specs.declared.layer.Prefix.TheFolds.{fold-Prefix, fold-Primary, fold-Term, fold-Operation, fold-roll-Prefix, fold-roll-Primary, fold-roll-Term, fold-roll-Layer, fold-roll-Operation, ind-Layer, map-Prefix, map-Primary, map-Term}
-use Rattle.deck_tree.specs.declared.layer.Primary.{Primary, roll-Primary}
-use Rattle.deck_tree.specs.declared.layer.Primary.TheVariants as primaries
-use Rattle.deck_tree.specs.declared.layer.Term.{Term, roll-Term}
-use Rattle.deck_tree.specs.declared.layer.Term.TheVariants as terms
-use Rattle.deck_tree.specs.declared.layer.Layer.{Layer, roll-Layer}
-use Rattle.deck_tree.specs.declared.layer.Operation.{Operation, roll-Operation}
-use Rattle.deck_tree.specs.WellFormed.{all_hold, is_formed_value, is_formed_limits, is_formed_distance, is_formed_prefix, is_formed_primary, is_formed_term, is_formed_layer, deepest, depth_of_value, depth_of_limits, depth_of_distance, depth_of_prefix, depth_of_primary, depth_of_term, depth_of_layer}
-use Rattle.deck_tree.specs.Plain.{plain_name, plain_value, plain_limits, plain_distance, plain_prefix, plain_primary, plain_term, plain_operation, plain_layer}
 use Rattle.deck_grammar.specs.declared.kind.Kind.TheVariants as kinds
 use Rattle.deck_grammar.specs.Rules as r
 use Rattle.deck_grammar.specs.Alternatives as a
-use Rattle.deck_printer.specs.Values.{Text, value_text, bound_text, limits_text}
-use Rattle.deck_printer.specs.Layers.{relation_text, edge_relation_text, infix_text, turn_text, side_text, expand_words, input_text, second_text, options_text, distance_text, prefix_step, primary_step, term_step, operation_step, layer_step, prefix_text, primary_text, term_text, operation_text, layer_text}
-use Rattle.deck_round.proofs.Levels.{Fits, unrolled, both_fit, inside, may_open}
+use Rattle.deck_printer.specs.Layers.{relation_text, infix_text, turn_text}
 use Rattle.deck_round.proofs.Lexing.{Closed, Before}
 use Rattle.deck_round.proofs.Pieces.{One}
-use Rattle.deck_round.proofs.Parts.{Ruled, nothing, blank_then, token_then, rule_then, last_token, last_rule, in_round, token_space, rule_space}
+use Rattle.deck_round.proofs.Parts.{Ruled, nothing, blank_then, last_token, token_space}
 use Rattle.deck_round.proofs.Keywords as word
-use Rattle.deck_round.proofs.Marks.{name_one}
-use Rattle.deck_round.proofs.Places.{each}
-use Rattle.deck_round.proofs.PlacesOfLayers.{placeless_prefix, placeless_primary, placeless_term, placeless_operation, prefix_bare, primary_bare, term_bare}
 
 pub relation_one : (which : Relation) → One Closed (kinds.Keyword (a.relation_word which)) (relation_text which)
 relation_one relations.Inside = word.inside

@@ -1,33 +1,23 @@
 -- The canonical text of files, of lists of names and numbers, and of words of statements is spelled by the grammar as it is, but for places.
-use Rattle.std.proofs.Common.{◌≡◌, ℕ, Bool, true, false, ◌&&◌, List, [], ◌∷◌, ◌++◌, map, Option, Some, None, refl, sym, ap, subst, ◌∙◌, append_assoc, append-nil}
+use Rattle.std.proofs.Common.{◌≡◌, true, List, [], ◌∷◌, ◌++◌, map, refl}
 use Rattle.std.specs.Prelude.{codes}
 use Rattle.std.specs.List.{list_all, flat_map}
-use Rattle.std.specs.Option.{option_map_or}
-use Rattle.std.proofs.lemmas.Bool.{and_parts, false≢true}
+use Rattle.std.proofs.lemmas.Bool.{and_parts}
 use Rattle.deck_tree.specs.declared.name_at.NameAt.{NameAt}
 use Rattle.deck_tree.specs.declared.number.Number.{Number}
-use Rattle.deck_tree.specs.declared.value.Value.{Value}
-use Rattle.deck_tree.specs.declared.statement.Statement.{Statement}
-use Rattle.deck_tree.specs.declared.statement.Statement.TheVariants as statement
 use Rattle.deck_tree.specs.declared.statement.LayerMap.{LayerMap}
 use Rattle.deck_tree.specs.declared.statement.MapKind.{MapKind}
 use Rattle.deck_tree.specs.declared.statement.MapKind.TheVariants as map_kinds
-use Rattle.deck_tree.specs.declared.statement.Item.{Item}
-use Rattle.deck_tree.specs.declared.statement.Item.TheVariants as item
-use Rattle.deck_tree.specs.WellFormed.{is_formed_name, is_formed_file, is_formed_number, is_formed_value, is_formed_layer, is_formed_map, is_formed_item, is_formed_statement, is_some_list, deepest, depth_of_item, depth_of_statement}
-use Rattle.deck_tree.specs.Plain.{plain_name, plain_number, plain_value, plain_map, plain_item, plain_statement}
-use Rattle.deck_grammar.specs.declared.kind.Kind.TheVariants as kinds
-use Rattle.deck_grammar.specs.Lexemes.{lexeme, number_of}
+use Rattle.deck_tree.specs.WellFormed.{is_formed_name, is_formed_file, is_formed_number}
+use Rattle.deck_tree.specs.Plain.{plain_name, plain_number}
 use Rattle.deck_grammar.specs.Rules as r
 use Rattle.deck_grammar.specs.Alternatives as a
-use Rattle.deck_printer.specs.Values.{number_text, value_text}
-use Rattle.deck_printer.specs.Layers.{layer_text}
-use Rattle.deck_printer.specs.Canonical.{file_text, most_text, spaced_name, spaced_number, map_kind_text, map_text, note_text, item_text, statement_text}
-use Rattle.deck_round.proofs.Levels.{Fits, both_fit}
-use Rattle.deck_round.proofs.Lexing.{Closed, Anything, Before}
-use Rattle.deck_round.proofs.Parts.{Ruled, nothing, blank_then, token_then, rule_then, last_token, last_rule, token_space, rule_space}
+use Rattle.deck_printer.specs.Values.{number_text}
+use Rattle.deck_printer.specs.Canonical.{file_text, spaced_name, spaced_number}
+use Rattle.deck_round.proofs.Lexing.{Closed, Before}
+use Rattle.deck_round.proofs.Parts.{Ruled, nothing, blank_then, token_then, last_token, last_rule}
 use Rattle.deck_round.proofs.Keywords as word
-use Rattle.deck_round.proofs.Marks.{name_one, file_one, file_said, number_one, number_said, note_one, note_said}
+use Rattle.deck_round.proofs.Marks.{name_one, file_one, file_said, number_one, number_said}
 use Rattle.deck_round.proofs.AlikeValues.{alike}
 
 pub file_spelled : (file : NameAt) → is_formed_file file ≡ true → Ruled Closed 0 r.file (file_text file) (λ read. plain_name read ≡ plain_name file)

@@ -1,5 +1,5 @@
 -- What each alternative of the grammar makes is formed, and no deeper than its brackets let it be.
-use Rattle.std.proofs.Common.{◌≡◌, ℕ, suc, ◌+◌, ◌-◌, ◌<◌, ◌≤◌, max, Bool, true, false, not, ◌&&◌, ◌||◌, List, [], ◌∷◌, map, Option, Some, None, refl, sym, ap, subst, ◌∙◌, arith}
+use Rattle.std.proofs.Common.{◌≡◌, ℕ, suc, ◌+◌, ◌-◌, ◌<◌, ◌≤◌, max, Bool, true, false, not, ◌&&◌, ◌||◌, List, [], ◌∷◌, map, Option, Some, None, refl, sym, subst, ◌∙◌, arith}
 use Rattle.std.specs.Prelude.{is_some}
 use Rattle.std.specs.List.{list_all}
 use Rattle.std.specs.Option.{option_map_or}
@@ -21,7 +21,7 @@ use Rattle.deck_tree.specs.declared.value.Product.{Product, roll-Product}
 use Rattle.deck_tree.specs.declared.value.Factor.{Factor, roll-Factor}
 use Rattle.deck_tree.specs.declared.value.Power.{Power, roll-Power}
 use Rattle.deck_tree.specs.declared.value.Exponent.{Exponent, roll-Exponent}
-use Rattle.deck_tree.specs.declared.value.Atom.{Atom, roll-Atom}
+use Rattle.deck_tree.specs.declared.value.Atom.{Atom}
 use Rattle.deck_tree.specs.declared.value.Atom.TheVariants as atoms
 use Rattle.deck_tree.specs.declared.value.Atom.TheOpen.{Atom-F}
 use Rattle.deck_tree.specs.declared.value.Atom.TheFolds.{fold-roll-Atom, fold-roll-Addend, fold-roll-Exponent, fold-roll-Factor, fold-roll-Power, fold-roll-Product, fold-roll-Value}
@@ -34,19 +34,18 @@ use Rattle.deck_tree.specs.declared.distance.Distance.{Distance}
 use Rattle.deck_tree.specs.declared.distance.Options.{Options}
 use Rattle.deck_tree.specs.declared.layer.Layer.{Layer, roll-Layer}
 use Rattle.deck_tree.specs.declared.layer.Operation.{Operation, roll-Operation}
-use Rattle.deck_tree.specs.declared.layer.Primary.{Primary, roll-Primary}
+use Rattle.deck_tree.specs.declared.layer.Primary.{Primary}
 use Rattle.deck_tree.specs.declared.layer.Primary.TheVariants as primaries
-use Rattle.deck_tree.specs.declared.layer.Term.{Term, roll-Term}
+use Rattle.deck_tree.specs.declared.layer.Term.{Term}
 use Rattle.deck_tree.specs.declared.layer.Term.TheVariants as terms
-use Rattle.deck_tree.specs.declared.layer.Prefix.{Prefix, roll-Prefix}
+use Rattle.deck_tree.specs.declared.layer.Prefix.{Prefix}
 use Rattle.deck_tree.specs.declared.layer.Prefix.TheVariants as prefixes
 use Rattle.deck_tree.specs.declared.layer.Prefix.TheOpen.{Prefix-F, Primary-F, Term-F}
 use Rattle.deck_tree.specs.declared.layer.Prefix.TheFolds.{fold-roll-Prefix, fold-roll-Primary, fold-roll-Term, fold-roll-Layer, fold-roll-Operation}
-use Rattle.deck_tree.specs.Words.{is_file}
-use Rattle.deck_tree.specs.WellFormed.{deepest, all_hold, most_nested, is_some_list, is_formed_name, is_formed_file, is_formed_number, is_formed_value, is_formed_bound, is_formed_limits, is_formed_input, is_formed_distance, is_formed_layer, is_formed_map, is_formed_item, is_formed_statement, is_formed_atom, is_formed_power, is_formed_prefix, is_formed_primary, is_formed_term, depth_of_atom, depth_of_power, depth_of_value, depth_of_bound, depth_of_limits, depth_of_distance, depth_of_prefix, depth_of_primary, depth_of_term, depth_of_layer, depth_of_item, depth_of_statement, has_its_inputs, brackets_fit, is_external_of_one}
+use Rattle.deck_tree.specs.WellFormed.{deepest, all_hold, most_nested, is_formed_name, is_formed_file, is_formed_number, is_formed_value, is_formed_bound, is_formed_limits, is_formed_input, is_formed_distance, is_formed_layer, is_formed_item, is_formed_statement, is_formed_atom, is_formed_power, is_formed_prefix, is_formed_primary, is_formed_term, depth_of_atom, depth_of_power, depth_of_value, depth_of_bound, depth_of_limits, depth_of_distance, depth_of_prefix, depth_of_primary, depth_of_term, depth_of_layer, depth_of_item, depth_of_statement, has_its_inputs, brackets_fit, is_external_of_one}
 use Rattle.deck_grammar.specs.declared.sign.Sign.TheVariants as s
 use Rattle.deck_grammar.specs.declared.kind.Kind.TheVariants as kinds
-use Rattle.deck_grammar.specs.Lexemes.{Lexeme, lexeme, name_of}
+use Rattle.deck_grammar.specs.Lexemes.{lexeme, name_of}
 use Rattle.deck_grammar.specs.Refusals.{open_behind}
 use Rattle.deck_grammar.specs.Rules as r
 use Rattle.deck_grammar.specs.Alternatives as a

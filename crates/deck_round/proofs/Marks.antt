@@ -1,9 +1,8 @@
 -- Names, numbers, files and notes: each is one token, and says what the tree has.
-use Rattle.std.proofs.Common.{◌≡◌, ℕ, suc, ◌+◌, ◌-◌, ◌<◌, Bool, true, false, ◌&&◌, ◌||◌, not, cond, eqb, List, [], ◌∷◌, ◌++◌, length, take, drop, reverse, map, refl, sym, ap, subst, ◌∙◌, inl, inr, arith, append_assoc, append-nil, length-append}
-use Rattle.std.specs.Prelude.{codes, if◌then◌else◌}
+use Rattle.std.proofs.Common.{◌≡◌, ℕ, ◌+◌, ◌-◌, Bool, true, false, ◌||◌, not, eqb, List, [], ◌∷◌, ◌++◌, length, take, drop, reverse, map, refl, sym, ap, subst, ◌∙◌, inl, inr, arith, append_assoc, append-nil, length-append}
 use Rattle.std.specs.List.{list_all, list_any, prefix_len}
 use Rattle.std.specs.Char.{is_ascii_alphabetic, to_ascii_lowercase}
-use Rattle.std.specs.Str.{bytes_eq, str_eq_ignore_ascii_case}
+use Rattle.std.specs.Str.{str_eq_ignore_ascii_case}
 use Rattle.std.proofs.lemmas.Bool.{not-true, and_parts, and_from, or_left, or_parts, cases_Bool, eqb-true, ne_eqb, false≢true}
 use Rattle.std.proofs.lemmas.Bool.Decides.{nat_tests}
 use Rattle.std.proofs.lemmas.List.{take_at, drop_at, drop_all, reverse-append, length-reverse}
@@ -11,15 +10,15 @@ use Rattle.std.proofs.lemmas.List.Folds.{prefix_len-append}
 use Rattle.std.proofs.lemmas.Slice.Eq.{bytes_eq-Decides}
 use Rattle.deck_tree.specs.declared.number.Number.{Number}
 use Rattle.deck_tree.specs.declared.name_at.NameAt.{NameAt}
-use Rattle.deck_tree.specs.Words.{keywords, unsupported_words, is_same_word, is_keyword, is_name, is_file, is_whole, is_fraction, is_note, ends_note}
-use Rattle.deck_tree.specs.WellFormed.{is_formed_name, is_formed_file, is_formed_number}
+use Rattle.deck_tree.specs.Words.{keywords, unsupported_words, is_same_word, is_keyword, is_name, is_whole, is_fraction, is_note, ends_note}
+use Rattle.deck_tree.specs.WellFormed.{is_formed_file, is_formed_number}
 use Rattle.deck_tree.specs.Plain.{plain_name, plain_number}
 use Rattle.deck_lexer.specs.Bytes.{is_digit, begins_word, is_in_line}
 use Rattle.deck_lexer.proofs.Spans.{Stops, span_len}
 use Rattle.deck_grammar.specs.declared.kind.Kind.{Kind}
 use Rattle.deck_grammar.specs.declared.kind.Kind.TheVariants as kinds
 use Rattle.deck_grammar.specs.Lexemes.{lexeme, file_of, number_of, note_of, without_quotes, without_first, without_last, before_point, behind_point, at_least_zero, is_zero, is_no_point, is_note_blank}
-use Rattle.deck_grammar.specs.Words.{lookup, begins_with_hash, keyword_rows, word_rows, word_kind}
+use Rattle.deck_grammar.specs.Words.{lookup, keyword_rows, word_rows, word_kind}
 use Rattle.deck_printer.specs.Values.{fraction_text, number_text}
 use Rattle.deck_printer.specs.Canonical.{file_text, note_text}
 use Rattle.deck_round.proofs.Levels.{flat_name, flat_number, flat_text, flat_note}

@@ -1,6 +1,5 @@
 -- What the bytes of a token of a text are, by what it is to the grammar.
-use Rattle.std.proofs.Common.{◌≡◌, ◌⊎◌, ℕ, ◌+◌, ◌-◌, Bool, true, false, not, ◌&&◌, ◌||◌, eqb, List, [], ◌∷◌, ◌++◌, length, take, drop, map, Option, Some, None, Result, Ok, refl, sym, ap, subst, ◌∙◌, inl, inr, arith}
-use Rattle.std.specs.Prelude.{if◌then◌else◌}
+use Rattle.std.proofs.Common.{◌≡◌, ◌⊎◌, ℕ, ◌-◌, Bool, true, false, not, ◌&&◌, ◌||◌, eqb, List, [], ◌∷◌, ◌++◌, length, take, drop, map, Option, Some, Result, Ok, refl, sym, ap, subst, ◌∙◌, inl, inr, arith}
 use Rattle.std.specs.List.{list_all, list_any}
 use Rattle.std.specs.Char.{is_ascii_alphabetic, to_ascii_lowercase}
 use Rattle.std.specs.Str.{bytes_eq, str_eq_ignore_ascii_case}
@@ -17,7 +16,7 @@ use Rattle.deck_lexer.specs.Tokens.{IsWord, IsNumber, IsText, IsNote, IsSpelling
 use Rattle.deck_grammar.specs.declared.kind.Kind.{Kind}
 use Rattle.deck_grammar.specs.declared.kind.Kind.TheVariants as kinds
 use Rattle.deck_grammar.specs.Lexemes.{Lexeme, lexeme}
-use Rattle.deck_grammar.specs.Words.{lookup, begins_with_hash, keyword_rows, word_rows, word_kind, sign_rows, sign_kind}
+use Rattle.deck_grammar.specs.Words.{lookup, keyword_rows, word_rows, word_kind, sign_rows, sign_kind}
 use Rattle.deck_cursor.specs.Places.{kind_in, bytes_of, lexemes}
 use Rattle.deck_round.proofs.Marks.{rows_words}
 

@@ -1,8 +1,7 @@
 -- The canonical text of statements is spelled by the grammar as they are, but for places, line by line.
-use Rattle.std.proofs.Common.{◌≡◌, ℕ, Bool, true, false, ◌&&◌, List, [], ◌∷◌, ◌++◌, map, Option, Some, None, refl, sym, ap, subst, ◌∙◌, append_assoc, append-nil}
+use Rattle.std.proofs.Common.{◌≡◌, ℕ, true, false, ◌&&◌, List, [], ◌∷◌, ◌++◌, map, Some, None, refl, sym, ap, subst, ◌∙◌, append_assoc, append-nil}
 use Rattle.std.specs.Prelude.{codes}
 use Rattle.std.specs.List.{list_all, flat_map}
-use Rattle.std.specs.Option.{option_map_or}
 use Rattle.std.proofs.lemmas.Bool.{and_parts, false≢true}
 use Rattle.deck_tree.specs.declared.name_at.NameAt.{NameAt}
 use Rattle.deck_tree.specs.declared.number.Number.{Number}
@@ -13,26 +12,25 @@ use Rattle.deck_tree.specs.declared.statement.LayerMap.{LayerMap}
 use Rattle.deck_tree.specs.declared.statement.MapKind.{MapKind}
 use Rattle.deck_tree.specs.declared.statement.MapKind.TheVariants as map_kinds
 use Rattle.deck_tree.specs.declared.statement.Item.{Item}
-use Rattle.deck_tree.specs.declared.statement.Item.TheVariants as item
-use Rattle.deck_tree.specs.WellFormed.{is_formed_name, is_formed_file, is_formed_number, is_formed_value, is_formed_layer, is_formed_map, is_formed_item, is_formed_statement, is_some_list, deepest, depth_of_item, depth_of_statement}
-use Rattle.deck_tree.specs.Plain.{plain_name, plain_number, plain_value, plain_map, plain_item, plain_statement}
+use Rattle.deck_tree.specs.WellFormed.{is_formed_name, is_formed_number, is_formed_value, is_formed_layer, is_formed_map, is_formed_item, is_formed_statement, deepest, depth_of_item, depth_of_statement}
+use Rattle.deck_tree.specs.Plain.{plain_name, plain_number, plain_statement}
 use Rattle.deck_grammar.specs.declared.kind.Kind.TheVariants as kinds
 use Rattle.deck_grammar.specs.Lexemes.{lexeme, number_of}
 use Rattle.deck_grammar.specs.Rules as r
 use Rattle.deck_grammar.specs.Alternatives as a
 use Rattle.deck_printer.specs.Values.{number_text, value_text}
 use Rattle.deck_printer.specs.Layers.{layer_text}
-use Rattle.deck_printer.specs.Canonical.{file_text, most_text, spaced_name, spaced_number, map_kind_text, map_text, note_text, item_text, statement_text}
+use Rattle.deck_printer.specs.Canonical.{file_text, spaced_name, spaced_number, map_text, item_text, statement_text}
 use Rattle.deck_round.proofs.Levels.{Fits, both_fit}
-use Rattle.deck_round.proofs.Lexing.{Closed, Anything, Before}
+use Rattle.deck_round.proofs.Lexing.{Closed, Anything}
 use Rattle.deck_round.proofs.Parts.{Ruled, nothing, blank_then, token_then, rule_then, last_token, last_rule, token_space, rule_space}
 use Rattle.deck_round.proofs.Keywords as word
-use Rattle.deck_round.proofs.Marks.{name_one, file_one, file_said, number_one, number_said, note_one, note_said}
+use Rattle.deck_round.proofs.Marks.{name_one, number_one, number_said}
 use Rattle.deck_round.proofs.AlikeValues.{alike}
 use Rattle.deck_round.proofs.Values.{value_spelled}
 use Rattle.deck_round.proofs.Layers.{layer_spelled}
 use Rattle.deck_round.proofs.Items.{items_spelled}
-use Rattle.deck_round.proofs.Lists.{file_spelled, ascii_spelled, no_mode, Names, names_spelled, Numbers, numbers_spelled, row_with, datatype_spelled, texttype_spelled}
+use Rattle.deck_round.proofs.Lists.{file_spelled, ascii_spelled, no_mode, names_spelled, numbers_spelled, row_with, datatype_spelled, texttype_spelled}
 
 -- ---- Statements
 
