@@ -1,0 +1,6 @@
+mod ByNames
+mod OneWorth
+mod HaveWorths
+mod Circles
+mod SoFar
+mod Naming
