@@ -392,9 +392,10 @@ fn expect_canonical(
     lines: &[u8],
 ) -> Result<(), AllocError> {
     let words = words_of(alloc, "fmt a.svrf")?;
+    let words = words.as_slice();
     let mut files = files_of(alloc, text, &[], 80, Vec::new(alloc))?;
-    let answer = if is_plain(&words) {
-        run_plain(alloc, &words, &mut files)
+    let answer = if is_plain(words) {
+        run_plain(alloc, words, &mut files)
     } else {
         Status::Words
     };
