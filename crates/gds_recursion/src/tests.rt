@@ -2,7 +2,7 @@
 
 use crate::recursive;
 use gds_reach::{Reference, are_within};
-use std::alloc::Global;
+use std::alloc::{AllocError, Global};
 use std::test::Fail;
 
 /// The first recursive reference that structure 0 reaches.
@@ -56,16 +56,22 @@ fn a_structure_that_refers_to_itself(rt: HostRuntime) -> Result<(), Fail> {
     Ok(())
 }
 
-#[test]
-fn forty_structures_with_two_references_each(rt: HostRuntime) -> Result<(), Fail> {
-    let alloc = rt.alloc();
+/// Forty structures, each with two references to the one behind it, and the last.
+fn chain(alloc: Global, last: Vec<Option<u32>>) -> Result<Vec<Vec<Option<u32>>>, AllocError> {
     let mut links = Vec::new(alloc);
     for structure in 0..40u32 {
         links.push(vec![in alloc; Some(structure + 1), Some(structure + 1)]?)?;
     }
-    links.push(Vec::new(alloc))?;
+    links.push(last)?;
+    Ok(links)
+}
+
+#[test]
+fn forty_structures_with_two_references_each(rt: HostRuntime) -> Result<(), Fail> {
+    let alloc = rt.alloc();
+    let links = chain(alloc, Vec::new(alloc))?;
     assert_eq!(rt; found(alloc, &links)?, None);
-    links[40].push(Some(20))?;
+    let links = chain(alloc, vec![in alloc; Some(20)]?)?;
     assert_eq!(rt; found(alloc, &links)?, at(20, 0));
     Ok(())
 }
