@@ -1,2 +1,2 @@
-pub mod Finding
-pub mod Numbering
+mod Finding
+mod Numbering

@@ -1,3 +1,3 @@
-pub mod Using
-pub mod Circles
-pub mod Backward
+mod Using
+mod Circles
+mod Backward
