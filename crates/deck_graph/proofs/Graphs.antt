@@ -1,10 +1,10 @@
 -- What names that are kept stand for is what names of the definitions stand for, and is one of them.
-use Rattle.std.proofs.Common.{◌≡◌, ℕ, zero, suc, ◌+◌, ◌<◌, Bool, true, false, cond, List, [], ◌∷◌, length, map, Option, Some, None, refl, sym, ap, subst, ◌∙◌, arith}
+use Rattle.std.proofs.Common.{◌≡◌, ℕ, zero, suc, ◌<◌, List, [], ◌∷◌, length, map, Option, Some, None, refl, sym, ap, subst, ◌∙◌, arith}
 use Rattle.std.proofs.lemmas.List.{length-map}
 use Rattle.std.specs.Prelude.{slice_get}
 use Rattle.std.specs.Global.{Vec}
 use Rattle.std.specs.List.{filter_map, position_from, cons_option}
-use Rattle.std.proofs.lemmas.Option.{none-some, same_Some}
+use Rattle.std.proofs.lemmas.Option.{none-some}
 use Rattle.deck_names.specs.declared.definition.Definition.{Definition}
 use Rattle.deck_names.specs.declared.definition.Scope.{Scope}
 use Rattle.deck_names.specs.Definitions.{stands_for}
@@ -14,28 +14,13 @@ use Rattle.deck_definitions.specs.declared.defined.Defined.{Defined}
 use Rattle.deck_definitions.specs.Definitions.{Entry, entry_of, shown}
 use Rattle.deck_graph.specs.Graphs.{used_names, is_for, key_of, number_for, uses_of, kept_key, AreNames, numbers}
 use Rattle.deck_graph.specs.Working.Finding.{uses_by}
+use Rattle.list_facts.proofs.Positions.{position-map, position_below}
 
--- ---- The first that passes a test
-
-position-map : {A B : Type 0} (f : A → B) (test : B → Bool) (n : ℕ) (xs : List A) → position_from (λ x. test (f x)) n xs ≡ position_from test n (map f xs)
-position-map f test n [] = refl
-position-map f test n (x ∷ xs) = ap (λ r. cond (test (f x)) (Some n) r) (position-map f test (n + 1) xs)
-
-same_number : (kept : List Definition) (all : List Entry) → AreNames kept all → (from : Scope) (q : List ℕ)
+pub same_number : (kept : List Definition) (all : List Entry) → AreNames kept all → (from : Scope) (q : List ℕ)
     → stands_for kept from q ≡ number_for all from q
 same_number kept all are from q =
     position-map kept_key (is_for from q) 0 kept
     ∙ (ap (λ keys. position_from (is_for from q) 0 keys) are ∙ sym (position-map key_of (is_for from q) 0 all))
-
--- it stands among them
-position_below : {A : Type 0} (test : A → Bool) (n : ℕ) (xs : List A) (j : ℕ) → position_from test n xs ≡ Some j → j < n + length xs
-position_below test n [] j e = absurd (none-some j e)
-position_below test n (x ∷ xs) j e = by (test x) (position_below test (n + 1) xs j) e
-  where
-    by : (b : Bool) → (position_from test (n + 1) xs ≡ Some j → j < (n + 1) + length xs) → cond b (Some n) (position_from test (n + 1) xs) ≡ Some j
-        → j < n + length (x ∷ xs)
-    by true later h = let is : n ≡ j = same_Some n j h in omega (arith, is)
-    by false later h = omega (arith, later h)
 
 -- ---- Uses
 

@@ -1,1 +1,1 @@
-mod Graphs
+pub mod Graphs

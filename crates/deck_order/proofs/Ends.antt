@@ -1,5 +1,5 @@
 -- Where a walk begins, and what it comes to at its end.
-use Rattle.std.proofs.Common.{◌≡◌, inl, inr, ℕ, zero, suc, ◌+◌, ◌<◌, false, List, [], ◌∷◌, ◌++◌, length, replicate, set, None, Some, refl, sym, ap, ◌∙◌, arith}
+use Rattle.std.proofs.Common.{◌≡◌, inl, inr, ℕ, zero, suc, ◌<◌, false, List, [], ◌∷◌, length, replicate, set, None, Some, refl, sym, ap, ◌∙◌, arith}
 use Rattle.std.proofs.lemmas.Bool.{cases_eq}
 use Rattle.std.proofs.lemmas.List.{length-replicate}
 use Rattle.std.proofs.lemmas.Option.{same_Some, slice_get_within}
@@ -61,10 +61,6 @@ entered_goes_on marks v n is = record {
 
 pub entered_seen : (marks : List Mark) (v n : ℕ) → v < length marks → IsSeen (set marks v (Open n)) v
 entered_seen marks v n l = (Open n, written marks v (Open n) l, λ q. absurd (cc))
-
-pub longer : {X : Type 0} (xs : List X) (x : X) → length (xs ++ x ∷ []) ≡ length xs + 1
-longer [] x = refl
-longer (y ∷ xs) x = let l = longer xs x in omega arith
 
 -- ---- the end
 

@@ -1,4 +1,4 @@
-mod Leading
+pub mod Leading
 mod Entering
 mod Looking
 mod Counting

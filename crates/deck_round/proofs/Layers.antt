@@ -29,7 +29,6 @@ use Rattle.deck_round.proofs.Lexing.{Closed, Before}
 use Rattle.deck_round.proofs.Parts.{Ruled, nothing, blank_then, token_then, rule_then, last_token, last_rule, in_round, token_space, rule_space}
 use Rattle.deck_round.proofs.Keywords as word
 use Rattle.deck_round.proofs.Marks.{name_one}
-use Rattle.deck_round.proofs.Places.{each}
 use Rattle.deck_round.proofs.PlacesOfLayers.{placeless_primary, placeless_term, placeless_operation}
 use Rattle.deck_round.proofs.AlikeValues.{alike}
 use Rattle.deck_round.proofs.Values.{chain, value_spelled}
@@ -37,6 +36,7 @@ use Rattle.deck_round.proofs.Bounds.{limits_spelled, limits_before}
 use Rattle.deck_round.proofs.Distances.{BehindWord, distance_spelled}
 use Rattle.deck_round.proofs.Infixes.{infix_spelled, turn_spelled, turn_before, inside_spelled, outside_spelled}
 use Rattle.deck_round.proofs.AlikeLayers.{prefix_at, term_at, distance_at, name_alike, bracketed_alike, copy_alike, rectangle_alike, area_alike, length_alike, size_alike, angle_alike, expand_alike, operation_alike, layer_alike}
+use Rattle.list_facts.proofs.Members.{each}
 
 -- ---- The tests of each part, and what is shown of it
 

@@ -13,6 +13,7 @@ use Rattle.deck_tree.specs.declared.value.Product.{Product, roll-Product}
 use Rattle.deck_tree.specs.declared.value.Value.{Value, roll-Value}
 use Rattle.deck_tree.specs.Plain.{plain_name, plain_number, plain_place, plain_atom, plain_addend, plain_exponent, plain_factor, plain_value}
 use Rattle.deck_printer.specs.Values.{Text, number_text, minus_text, atom_step, exponent_step, power_step, product_sign_text, factor_step, product_step, add_sign_text, addend_step, value_step, atom_text, addend_text, exponent_text, factor_text, power_text, product_text, value_text}
+use Rattle.list_facts.proofs.Members.{each}
 
 -- ---- Values: each part without places
 
@@ -54,10 +55,6 @@ E-product x = product_text (placeless_product x) ≡ product_text x
 
 abbrev E-value : Value → Type 0
 E-value x = value_text (plain_value x) ≡ value_text x
-
-pub each : {A : Type 0} (P : A → Type 0) (ys : List ((a : A) × P a)) → AllByRecursion P (map (λ e. e.0) ys)
-each P [] = tt
-each P (y ∷ ys) = (y.1, each P ys)
 
 pub same_texts : {A : Type 0} (bare : A → A) (text : A → List ℕ) (xs : List A) → AllByRecursion (λ x. text (bare x) ≡ text x) xs → concat (map text (map bare xs)) ≡ concat (map text xs)
 same_texts bare text [] all = refl

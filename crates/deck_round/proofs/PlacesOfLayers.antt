@@ -29,7 +29,8 @@ use Rattle.deck_tree.specs.Plain.{plain_name, plain_number, plain_value, plain_b
 use Rattle.deck_printer.specs.Values.{Text, value_text, below_text, above_text, bound_text, upper_text, limits_text}
 use Rattle.deck_printer.specs.Layers.{infix_text, turn_text, side_text, expand_words, input_text, second_text, abut_text, distance_text, prefix_step, primary_step, term_step, operation_step, layer_step, prefix_text, primary_text, term_text, operation_text, layer_text}
 use Rattle.deck_printer.specs.Canonical.{most_text, spaced_name, spaced_number, item_text, statement_text, canonical}
-use Rattle.deck_round.proofs.Places.{each, same_texts, value_same}
+use Rattle.deck_round.proofs.Places.{same_texts, value_same}
+use Rattle.list_facts.proofs.Members.{each}
 
 -- ---- What holds values
 

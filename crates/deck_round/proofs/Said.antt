@@ -2,10 +2,9 @@
 use Rattle.std.proofs.Common.{◌≡◌, ◌⊎◌, ℕ, ◌-◌, Bool, true, false, not, ◌&&◌, ◌||◌, eqb, List, [], ◌∷◌, ◌++◌, length, take, drop, map, Option, Some, Result, Ok, refl, sym, ap, subst, ◌∙◌, inl, inr, arith}
 use Rattle.std.specs.List.{list_all, list_any}
 use Rattle.std.specs.Char.{is_ascii_alphabetic, to_ascii_lowercase}
-use Rattle.std.specs.Str.{bytes_eq, str_eq_ignore_ascii_case}
+use Rattle.std.specs.Str.{str_eq_ignore_ascii_case}
 use Rattle.std.proofs.lemmas.Bool.{and_parts, and_from, or_parts, or_from, cases_Bool, false≢true}
 use Rattle.std.proofs.lemmas.List.{take_at, drop-drop, drop_at}
-use Rattle.std.proofs.lemmas.Slice.Eq.{bytes_eq-Decides}
 use Rattle.deck_tree.specs.Words.{keywords, unsupported_words, is_same_word, is_keyword, is_name}
 use Rattle.deck_lexer.specs.declared.token.Token.{Token}
 use Rattle.deck_lexer.specs.declared.token.TokenKind.{TokenKind}
@@ -19,6 +18,7 @@ use Rattle.deck_grammar.specs.Lexemes.{Lexeme, lexeme}
 use Rattle.deck_grammar.specs.Words.{lookup, keyword_rows, word_rows, word_kind, sign_rows, sign_kind}
 use Rattle.deck_cursor.specs.Places.{kind_in, bytes_of, lexemes}
 use Rattle.deck_round.proofs.Marks.{rows_words}
+use Rattle.list_facts.proofs.Texts.{bytes_apart}
 
 abbrev pub Said : Kind → List ℕ → Type 0
 Said kinds.Name bytes = is_name bytes ≡ true
@@ -67,13 +67,6 @@ signs_listed : list_all (λ (row : List ℕ × Kind). is_listed row.1) sign_rows
 unfolding sign_rows
 signs_listed = refl
 
-apart : (a b : List ℕ) → bytes_eq a b ≡ false → bytes_eq b a ≡ false
-apart a b none =
-    elim (cases_Bool (bytes_eq b a)) [
-      | inl holds ↦ absurd (false≢true (sym none ∙ (bytes_eq-Decides a b).1 (sym ((bytes_eq-Decides b a).0 holds))))
-      | inr fails ↦ fails
-    ]
-
 -- a word that is a name is in no row
 no_match : (rows : List (List ℕ × Kind)) (word : List ℕ) → list_all (λ row. is_listed row.1) rows ≡ true → lookup kinds.Name rows word ≡ kinds.Name
     → list_any (is_same_word word) (map (λ row. row.0) rows) ≡ false
@@ -86,7 +79,7 @@ no_match (row ∷ more) word all is =
           absurd (false≢true (sym (ap is_listed named) ∙ both.0))
       | inr fails ↦
           let rest : lookup kinds.Name more word ≡ kinds.Name = rw fails at is in
-          or_from (is_same_word word row.0) (list_any (is_same_word word) (map (λ row. row.0) more)) (apart (map to_ascii_lowercase row.0) (map to_ascii_lowercase word) fails) (no_match more word both.1 rest)
+          or_from (is_same_word word row.0) (list_any (is_same_word word) (map (λ row. row.0) more)) (bytes_apart (map to_ascii_lowercase row.0) (map to_ascii_lowercase word) fails) (no_match more word both.1 rest)
     ]
 
 any_apart : (test : List ℕ → Bool) (a b : List (List ℕ)) → list_any test (a ++ b) ≡ false → (list_any test a ≡ false) × (list_any test b ≡ false)

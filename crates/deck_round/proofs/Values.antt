@@ -25,8 +25,9 @@ use Rattle.deck_round.proofs.Lexing.{Closed, Before}
 use Rattle.deck_round.proofs.Parts.{Ruled, nothing, blank_then, token_then, rule_then, last_token, last_rule, in_round, token_space}
 use Rattle.deck_round.proofs.Keywords as word
 use Rattle.deck_round.proofs.Marks.{name_one, number_one, number_said}
-use Rattle.deck_round.proofs.Places.{placeless_atom, placeless_addend, placeless_exponent, placeless_factor, placeless_power, placeless_product, each}
+use Rattle.deck_round.proofs.Places.{placeless_atom, placeless_addend, placeless_exponent, placeless_factor, placeless_power, placeless_product}
 use Rattle.deck_round.proofs.AlikeValues.{number_alike, name_alike, bracketed_alike, addend_alike, factor_alike, exponent_alike, power_alike, product_alike, value_alike, alike}
+use Rattle.list_facts.proofs.Members.{each}
 
 -- ---- The tests of each part, and how deep it is
 

@@ -19,6 +19,7 @@ use Rattle.deck_tree.specs.Names.{Names}
 use Rattle.deck_tree.specs.Worths.{Worth, Step, number_worth, name_worth, with_minus, joined, chain, atom_level, addend_level, exponent_level, factor_level, power_level, product_level, value_level, atom_worth, power_worth, product_worth, value_worth}
 use Rattle.deck_tree.specs.Working.Answers.{addend_step as addend_of, exponent_step as exponent_of, factor_step as factor_of}
 use Rattle.deck_uses.specs.UsedNames.{Used, joined as all_of, atom_step, addend_step, exponent_step, factor_step, power_step, product_step, value_step, atom_names, addend_names, exponent_names, factor_names, power_names, product_names, value_names}
+use Rattle.list_facts.proofs.Members.{each}
 
 -- what holds of the names of a part and of what it comes to by two functions of names, wherever it holds of its parts
 pub record IsKept (n m : Names) (P : List NameAt → Worth → Worth → Type 0) : Type 0 where
@@ -33,10 +34,6 @@ AtomF = Atom-F Atom Addend Exponent Factor Power Product Value
 
 abbrev PowerF : Type 0
 PowerF = Power-F Atom Addend Exponent Factor Power Product Value
-
-each : {A : Type 0} (P : A → Type 0) (ys : List ((a : A) × P a)) → AllByRecursion P (map (λ e. e.0) ys)
-each P [] = tt
-each P (y ∷ ys) = (y.1, each P ys)
 
 module _ (n m : Names) (P : List NameAt → Worth → Worth → Type 0) (kept : IsKept n m P) where
   -- ---- Steps of chains

@@ -13,6 +13,7 @@ use Rattle.deck_uses.specs.UsedNames.{value_names}
 use Rattle.deck_definitions.specs.Definitions.{Entry, entry, worth}
 use Rattle.deck_graph.specs.Graphs.{number_for, uses_of, numbers}
 use Rattle.deck_worths.specs.Worths.{IsWorth, comes_to}
+use Rattle.deck_order.proofs.Leading.{onward}
 
 -- ---- What is found among the names
 
@@ -71,10 +72,6 @@ module _ (all : List Entry) (uses : List (Vec ℕ)) (are : numbers uses ≡ map 
         (r.0, subst (λ those. slice_get those r.0 ≡ Some j) (sym (uses_are i (entry name scope.Everywhere (worth value)) there)) r.1)
 
 -- ---- Circles
-
-onward : {uses : List (Vec ℕ)} {i j k : ℕ} → Leads uses i j → Leads uses j k → Leads uses i k
-onward (at_once u) m = by u m
-onward (by u l) m = by u (onward l m)
 
 first_use : {uses : List (Vec ℕ)} {i j : ℕ} → Leads uses i j → (k : ℕ) × IsUse uses i k × ((k ≡ j) ⊎ Leads uses k j)
 first_use (at_once u) = (_, u, inl refl)

@@ -1,31 +1,16 @@
 -- What is kept of names stands for what names of the definitions stand for, and what was told of names.
-use Rattle.std.proofs.Common.{◌≡◌, ◌≢◌, ◌⊎◌, inl, inr, ℕ, zero, suc, ◌+◌, Bool, cond, List, [], ◌∷◌, map, Option, Some, None, refl, sym, ap, subst, ◌∙◌}
+use Rattle.std.proofs.Common.{◌≡◌, ◌≢◌, ◌⊎◌, inl, inr, ℕ, zero, suc, List, [], ◌∷◌, Option, Some, None, refl, sym, subst, ◌∙◌}
 use Rattle.std.proofs.lemmas.Bool.{cases_Bool}
 use Rattle.std.proofs.lemmas.Option.{none-some}
 use Rattle.std.specs.Prelude.{nat_eq, slice_get}
 use Rattle.std.specs.Borrow.{Bor}
 use Rattle.std.specs.Cmp.Lexicographic.{pointwise, same_text, other_text}
-use Rattle.std.specs.List.{AllByRecursion, position_from}
+use Rattle.std.specs.List.{AllByRecursion}
 use Rattle.drc_num.specs.Fractions.{Fraction}
 use Rattle.deck_tree.specs.declared.name_at.NameAt.{NameAt}
 use Rattle.deck_tree.specs.Names.{Names}
-use Rattle.deck_names.specs.declared.definition.Definition.{Definition}
-use Rattle.deck_names.specs.declared.definition.Scope.{Scope}
-use Rattle.deck_names.specs.Definitions.{stands_for}
 use Rattle.deck_uses.specs.UsedNames.{shown as shown_names}
-use Rattle.deck_definitions.specs.Definitions.{Entry}
-use Rattle.deck_graph.specs.Graphs.{is_for, key_of, number_for, kept_key, AreNames}
 use Rattle.deck_worths.specs.Working.SoFar.{IsTold}
-
-position-map : {A B : Type 0} (f : A → B) (test : B → Bool) (n : ℕ) (xs : List A) → position_from (λ x. test (f x)) n xs ≡ position_from test n (map f xs)
-position-map f test n [] = refl
-position-map f test n (x ∷ xs) = ap (λ r. cond (test (f x)) (Some n) r) (position-map f test (n + 1) xs)
-
-pub same_number : (kept : List Definition) (all : List Entry) → AreNames kept all → (from : Scope) (q : List ℕ)
-    → stands_for kept from q ≡ number_for all from q
-same_number kept all are from q =
-    position-map kept_key (is_for from q) 0 kept
-    ∙ (ap (λ keys. position_from (is_for from q) 0 keys) are ∙ sym (position-map key_of (is_for from q) 0 all))
 
 -- ---- One name more is told
 

@@ -3,3 +3,4 @@ pub mod MaximalRuns
 pub mod Boundaries
 pub mod Lengths
 pub mod Turning
+pub mod Covered

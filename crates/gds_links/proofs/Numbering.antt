@@ -1,5 +1,5 @@
 -- What kept names stand for is what names of the structures stand for, and is one of them.
-use Rattle.std.proofs.Common.{◌≡◌, ℕ, zero, suc, ◌+◌, ◌<◌, Bool, true, false, cond, List, [], ◌∷◌, length, map, Option, Some, None, refl, sym, ap, subst, ◌∙◌, arith}
+use Rattle.std.proofs.Common.{◌≡◌, ℕ, zero, suc, ◌<◌, Bool, List, [], ◌∷◌, length, map, Option, Some, None, refl, sym, ap, subst, ◌∙◌, arith}
 use Rattle.std.proofs.lemmas.List.{length-map}
 use Rattle.std.proofs.lemmas.Option.{none-some, same_Some}
 use Rattle.std.specs.Prelude.{nat_eq, ◌&&◌, slice_get, IfSome}
@@ -16,21 +16,7 @@ use Rattle.gds_library.specs.Library.{Drawing, boundary, box, path, instance, St
 use Rattle.gds_reach.specs.References.{AreWithin, Refers}
 use Rattle.gds_links.specs.Links.{number_of, reference, references_in, links_of, listed, AreLinks}
 use Rattle.gds_links.specs.Working.Naming.{AreNames, key_of, kept_key, link_by, links_by}
-
--- ---- the first that passes a test
-
-position-map : {A B : Type 0} (f : A → B) (test : B → Bool) (n : ℕ) (xs : List A) → position_from (λ x. test (f x)) n xs ≡ position_from test n (map f xs)
-position-map f test n [] = refl
-position-map f test n (x ∷ xs) = ap (λ r. cond (test (f x)) (Some n) r) (position-map f test (n + 1) xs)
-
-position_below : {A : Type 0} (test : A → Bool) (n : ℕ) (xs : List A) (j : ℕ) → position_from test n xs ≡ Some j → j < n + length xs
-position_below test n [] j e = absurd (none-some j e)
-position_below test n (x ∷ xs) j e = by (test x) (position_below test (n + 1) xs j) e
-  where
-    by : (b : Bool) → (position_from test (n + 1) xs ≡ Some j → j < (n + 1) + length xs) → cond b (Some n) (position_from test (n + 1) xs) ≡ Some j
-        → j < n + length (x ∷ xs)
-    by true later h = let is : n ≡ j = same_Some n j h in omega (arith, is)
-    by false later h = omega (arith, later h)
+use Rattle.list_facts.proofs.Positions.{position-map, position_below}
 
 -- ---- links
 

@@ -2,4 +2,3 @@ mod Kept
 mod Headings
 mod Paths
 mod Areas
-mod Covered

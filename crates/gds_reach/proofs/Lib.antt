@@ -1,8 +1,8 @@
 pub mod Paths
 pub mod Naming
-pub mod Marking
+mod Marking
 pub mod Spreading
 pub mod Firsts
-pub mod Depths
-pub mod Turning
-pub mod Living
+mod Depths
+mod Turning
+mod Living

@@ -3,7 +3,7 @@ use Rattle.std.proofs.Common.{◌≡◌, ◌⊎◌, inl, inr, ℕ, zero, suc, �
 use Rattle.std.proofs.lemmas.Bool.{cases_eq}
 use Rattle.std.proofs.lemmas.List.{length-set}
 use Rattle.std.specs.Prelude.{slice_get}
-use Rattle.list_facts.proofs.Slots.{at_end, front, one_more, unwritten, written, written_cases}
+use Rattle.list_facts.proofs.Slots.{at_end, front, longer, one_more, unwritten, written, written_cases}
 use Rattle.gds_reach.specs.References.{IsOn}
 use Rattle.gds_reach.specs.Working.Marks.{off, IsMarked, Waits}
 
@@ -13,10 +13,6 @@ one_less (true ∷ fs) zero e = absurd (cc)
 one_less (false ∷ fs) zero e = refl
 one_less (true ∷ fs) (suc i) e = one_less fs i e
 one_less (false ∷ fs) (suc i) e = let t = one_less fs i e in omega arith
-
-longer : {X : Type 0} (xs : List X) (x : X) → length (xs ++ x ∷ []) ≡ length xs + 1
-longer [] x = refl
-longer (y ∷ xs) x = let l = longer xs x in omega arith
 
 -- none is flagged, or waits, more than before
 pub none_marked : {holds : ℕ → Type 0} (flags : List Bool) (waiting : List ℕ) → ((i : ℕ) → holds i → IsOn flags i) → IsMarked holds flags waiting flags waiting

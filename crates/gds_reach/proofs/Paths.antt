@@ -5,6 +5,7 @@ use Rattle.std.specs.Global.{Vec}
 use Rattle.gds_reach.specs.declared.reference.Reference.{Reference}
 use Rattle.gds_reach.specs.References.{IsClosed, IsOn, IsPath, Reaches, Refers, named_in}
 use Rattle.gds_reach.specs.Facts.{ReachesBy}
+use Rattle.list_facts.proofs.Slots.{longer}
 
 pub named_here : (links : List (Vec (Option ℕ))) (i : ℕ) (d : Vec (Option ℕ)) → i < length links → named_in links i ≡ (slice_index_or links i d).items
 named_here [] i d l = absurd (omega arith)
@@ -48,10 +49,6 @@ last_of links i j r [] (s, m, n, p) =
 last_of links i j r (q ∷ path) (s, m, n, p) =
     let (k, before, l, b, last) = last_of links m j q path p in
     (k, r ∷ before, (let t : suc (length before) ≡ suc (length path) = omega arith in t), (s, m, n, b), last)
-
-pub longer : {X : Type 0} (xs : List X) (x : X) → length (xs ++ x ∷ []) ≡ length xs + 1
-longer [] x = refl
-longer (y ∷ xs) x = let l = longer xs x in omega arith
 
 -- paths of one reference more
 pub by_one_more : (links : List (Vec (Option ℕ))) (n i j k : ℕ) → ReachesBy links n i j → Refers links j k → ReachesBy links (n + 1) i k

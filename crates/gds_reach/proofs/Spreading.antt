@@ -3,7 +3,7 @@ use Rattle.std.proofs.Common.{◌≡◌, ◌⊎◌, inl, inr, ◌↔◌, ℕ, ze
 use Rattle.std.proofs.lemmas.Option.{same_Some}
 use Rattle.std.specs.Prelude.{slice_get}
 use Rattle.std.specs.Global.{Vec}
-use Rattle.list_facts.proofs.Slots.{at_end, front, one_more}
+use Rattle.list_facts.proofs.Slots.{at_end, front, longer, one_more}
 use Rattle.gds_reach.specs.References.{IsClosed, IsNamed, IsOn, Reaches, Refers, named_in}
 use Rattle.gds_reach.specs.Working.Marks.{IsMarked}
 use Rattle.gds_reach.specs.Working.Spreading.{AreMet, IsSpread, work}
@@ -63,7 +63,7 @@ pub step_less : {holds : ℕ → Type 0} (f g : List Bool) (rest waiting : List 
 step_less f g rest waiting u a =
     let c = a.counts in
     let d = a.fewer in
-    let l = paths.longer rest u in
+    let l = longer rest u in
     omega arith
 
 -- one more is flagged, where flags are closed

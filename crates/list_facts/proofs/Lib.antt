@@ -5,3 +5,4 @@ pub mod Slots
 pub mod Texts
 pub mod InOrder
 pub mod Attempts
+pub mod Positions

@@ -1,5 +1,5 @@
 -- Membership by cases on the list, beside `Contains`, which goes by place.
-use Rattle.std.proofs.Common.{◌≡◌, ℕ, zero, suc, ◌<◌, ◌⊎◌, Bool, true, false, ◌||◌, cond, inl, inr, List, [], ◌∷◌, ◌++◌, length, take, drop, slice_index_or, refl, sym, ap, subst, ◌∙◌, arith}
+use Rattle.std.proofs.Common.{◌≡◌, ℕ, zero, suc, ◌<◌, ◌⊎◌, Bool, true, false, ◌||◌, cond, inl, inr, List, [], ◌∷◌, ◌++◌, length, map, take, drop, slice_index_or, refl, sym, ap, subst, ◌∙◌, arith}
 use Rattle.std.proofs.lemmas.List.Sorted.{IsPermutation-sym, Contains-permutation}
 use Rattle.std.specs.List.{Contains, AllByRecursion, filter, list_any}
 use Rattle.std.specs.List.Sorted.{IsPermutation}
@@ -34,6 +34,10 @@ module _ {X : Type 0} where
   pub all_from_has : (P : X → Type 0) (ys : List X) → ((x : X) → Has ys x → P x) → AllByRecursion P ys
   all_from_has P [] f = tt
   all_from_has P (y ∷ ys) f = (f y (inl refl), all_from_has P ys (λ x h. f x (inr h)))
+
+  pub each : (P : X → Type 0) (ys : List ((x : X) × P x)) → AllByRecursion P (map (λ e. e.0) ys)
+  each P [] = tt
+  each P (y ∷ ys) = (y.1, each P ys)
 
   pub all_append : (P : X → Type 0) (xs ys : List X) → AllByRecursion P xs → AllByRecursion P ys → AllByRecursion P (xs ++ ys)
   all_append P [] ys a b = b

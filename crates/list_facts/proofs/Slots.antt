@@ -23,6 +23,10 @@ written_cases xs i j y z e =
       | inr s ↦ inr (s, sym (unwritten xs i j y s) ∙ e)
     ]
 
+pub longer : {X : Type 0} (xs : List X) (x : X) → length (xs ++ x ∷ []) ≡ length xs + 1
+longer [] x = refl
+longer (y ∷ xs) x = let l = longer xs x in omega arith
+
 pub front : {X : Type 0} (xs ys : List X) (i : ℕ) (x : X) → slice_get xs i ≡ Some x → slice_get (xs ++ ys) i ≡ Some x
 front [] ys i x e = absurd (cc)
 front (y ∷ xs) ys zero x e = e

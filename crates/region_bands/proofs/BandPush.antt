@@ -23,6 +23,7 @@ use Rattle.region_form.proofs.FlipRows.{all_odd}
 use Rattle.region_form.proofs.LineFlips.{sorted_on, odd_on, squares_of_line}
 use Rattle.region_bands.proofs.LastLine.{on_line, row_of_line}
 use Rattle.region_bands.proofs.BandRows.{band_inside, band_under, band_past}
+use Rattle.region_form.proofs.FlipOrder.{sorted_behind}
 
 stands_left : (f : Flip) (a b : List Flip) → StandsBeforeFirst f (a ++ b) → StandsBeforeFirst f a
 stands_left f [] b s = tt
@@ -31,10 +32,6 @@ stands_left f (g ∷ gs) b s = s
 pub sorted_left : (a b : List Flip) → AreSorted (a ++ b) → AreSorted a
 sorted_left [] b s = tt
 sorted_left (f ∷ fs) b s = (s.0, stands_left f fs b s.1, sorted_left fs b s.2)
-
-pub sorted_right : (a b : List Flip) → AreSorted (a ++ b) → AreSorted b
-sorted_right [] b s = s
-sorted_right (f ∷ fs) b s = sorted_right fs b s.2
 
 -- every flip lies on or above this line
 abbrev pub AreFrom : ℤ → List Flip → Type 0
@@ -93,7 +90,7 @@ same_of_one false false e = refl
 below_line : (line : ℤ) (low last : List Flip) (x : ℤ) → IsRegion (low ++ last) → AreOn line last → is_odd low x ≡ has (spans_of last) x
 below_line line low last x r o =
     same_of_one (is_odd low x) (is_odd last x) (sym (is_odd_append low last x) ∙ r.closed x)
-    ∙ has_line line last x (sorted_right low last r.sorted) o
+    ∙ has_line line last x (sorted_behind low last r.sorted) o
 
 twice : (p q : Bool) → exactly_one p (exactly_one (exactly_one p q) q) ≡ false
 twice true true = refl
@@ -155,13 +152,13 @@ old_under : (low last : List Flip) (band : Band) (change : List Span) (x y : ℤ
 old_under low last band change x y r c h =
     squares_append low last x y
     ∙ one_from_right_false (squares low x y) (squares last x y)
-    (squares_line band.y0 last x y (sorted_right low last r.sorted) c.last_line ∙ and_left (int_le band.y0 y) (has (spans_of last) x) (le_false band.y0 y h))
+    (squares_line band.y0 last x y (sorted_behind low last r.sorted) c.last_line ∙ and_left (int_le band.y0 y) (has (spans_of last) x) (le_false band.y0 y h))
 
 old_over : (low last : List Flip) (band : Band) (change : List Span) (x y : ℤ) → IsRegion (low ++ last) → IsChange low last band change → band.y0 ≤ℤ y → squares (low ++ last) x y ≡ false
 old_over low last band change x y r c h =
     let e1 = squares_append low last x y in
     let e2 = all_odd low x y (below_up band.y0 y low h c.low_lines) in
-    let e3 = squares_line band.y0 last x y (sorted_right low last r.sorted) c.last_line in
+    let e3 = squares_line band.y0 last x y (sorted_behind low last r.sorted) c.last_line in
     let e4 = and_known (int_le band.y0 y) (has (spans_of last) x) (le_true band.y0 y h) in
     let e5 = below_line band.y0 low last x r c.last_line in
     let e6 = one_itself (is_odd low x) in
@@ -234,7 +231,7 @@ pushed flips start band change r c =
 
 pub last_row : (flips : List Flip) (start : ℕ) (line : ℤ) → AreSorted flips → AreOn line (drop start flips) → IsRow (spans_of (take (length flips - start) (drop start flips)))
 last_row flips start line s o =
-    let t = sorted_right (take start flips) (drop start flips) (subst AreSorted (sym (take-append-drop start flips)) s) in
+    let t = sorted_behind (take start flips) (drop start flips) (subst AreSorted (sym (take-append-drop start flips)) s) in
     subst (λ v. IsRow (spans_of v)) (sym (take_rest flips start)) (row_of_line line (drop start flips) t o)
 
 pub change_of : (flips : List Flip) (start : ℕ) (band : Band) (below change : List Span) → band.y0 <ℤ band.y1 → AreBelow band.y0 (take start flips) → AreOn band.y0 (drop start flips) → IsRow band.row → IsRow change → below ≡ spans_of (take (length flips - start) (drop start flips)) → ((x : ℤ) → has change x ≡ exactly_one (has below x) (has band.row x)) → IsChange (take start flips) (drop start flips) band change

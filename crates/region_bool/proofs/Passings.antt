@@ -7,6 +7,7 @@ use Rattle.region_form.specs.Flips.{AreSorted, IsRegion, StandsBefore, StandsBef
 use Rattle.region_bool.specs.declared.meeting.Meeting.{Meeting}
 use Rattle.region_bool.specs.Working.Meetings.{AreOfOne, BothStandSo, IsMeeting, IsPassing, IsWide, ItStandsBefore, StandsBeforeIt, listed, odd_where}
 use Rattle.region_bool.proofs.Meetings.{one_middle, stands_on}
+use Rattle.region_form.proofs.FlipOrder.{sorted_behind}
 
 -- ---- what flips change together
 
@@ -31,10 +32,6 @@ follows : (o a c b : List Flip) → AreSorted (o ++ a) → AreSorted (o ++ c) �
 follows [] a c b p q s f = s
 follows (h ∷ []) a c b p q s f = (p.0, f h p.1 q.1, s)
 follows (h ∷ (k ∷ o)) a c b p q s f = (p.0, p.1, follows (k ∷ o) a c b p.2 q.2 s f)
-
-pub sorted_behind : (o a : List Flip) → AreSorted (o ++ a) → AreSorted a
-sorted_behind [] a s = s
-sorted_behind (h ∷ o) a s = sorted_behind o a s.2
 
 left_sorted : (m : Option Flip) (f : Flip) (fs : List Flip) → IsWide m → ((h : Flip) → StandsBefore f h → ItStandsBefore m h) → AreSorted (f ∷ fs) → AreSorted (listed m ++ fs)
 left_sorted None f fs w b s = s.2

@@ -25,6 +25,11 @@ pub all_behind : (f : Flip) (fs : List Flip) → AreSorted (f ∷ fs) → AllByR
 all_behind f [] s = tt
 all_behind f (g ∷ gs) s = (s.1, stand_on f g gs s.1 s.2.0 (all_behind g gs s.2))
 
+-- sorted flips are sorted from each place on
+pub sorted_behind : (o a : List Flip) → AreSorted (o ++ a) → AreSorted a
+sorted_behind [] a s = s
+sorted_behind (h ∷ o) a s = sorted_behind o a s.2
+
 -- ---- how far flips reach
 
 -- the farthest of a and the columns at which the flips end

@@ -7,7 +7,7 @@ use Rattle.list_facts.specs.Between.{between}
 use Rattle.list_facts.specs.EitherOr.{exactly_one}
 use Rattle.list_facts.proofs.EitherOr.{one_right_false}
 use Rattle.list_facts.proofs.Members.{all_append, all_weaker}
-use Rattle.list_facts.proofs.Tests.{and_false, and_known, and_right_known, between_before, between_past, between_true, clash, le_false, le_true, lt_false, lt_true, or_assoc, or_known, or_right_known}
+use Rattle.list_facts.proofs.Tests.{and_false, and_known, and_right_known, between_before, between_past, between_true, clash, le_false, le_true, lt_false, lt_true, or_known, or_right_known}
 use Rattle.drc_geom.specs.declared.rect.Rect.{Rect}
 use Rattle.drc_geom.specs.Squares.{IsRect, covered, squares_of}
 use Rattle.row_state.specs.declared.piece.Piece.{Piece}
@@ -23,12 +23,9 @@ use Rattle.region_rects.specs.declared.stretch.Stretch.{Stretch}
 use Rattle.region_rects.specs.declared.stretch.Stretch.TheVariants.{None, From}
 use Rattle.region_rects.specs.Disjoint.{AreDisjoint}
 use Rattle.region_rects.specs.Working.Stretches.{BeganUpTo, ended, ended_one, has_begun, passed}
+use Rattle.drc_geom.proofs.Covered.{covered_append}
 
 -- ---- the rectangles of pieces
-
-pub covered_append : (a b : List Rect) (x y : ℤ) → covered (a ++ b) x y ≡ (covered a x y || covered b x y)
-covered_append [] b x y = refl
-covered_append (r ∷ a) b x y = ap (λ v. squares_of r x y || v) (covered_append a b x y) ∙ or_assoc (squares_of r x y) (covered a x y) (covered b x y)
 
 one_has : (line y0 y1 : ℤ) (v : Stretch) (x y : ℤ) → covered (ended_one line y0 y1 v) x y ≡ ((has_begun v x && int_lt x line) && between y0 y1 y)
 one_has line y0 y1 None x y = refl

@@ -2,7 +2,8 @@ use Rattle.std.proofs.Common.{◌≡◌, ◌+◌, ◌*◌, ◌<◌, length, sym,
 use Rattle.deck_order.specs.Working.Walks.{Stage, IsWalk, GoesOn, stage_of, unseen}
 use Rattle.deck_order.proofs.Counting.{one_less}
 use Rattle.deck_order.proofs.Entering.{entered_walk}
-use Rattle.deck_order.proofs.Ends.{entered_goes_on, longer, then_goes_on}
+use Rattle.list_facts.proofs.Slots.{longer}
+use Rattle.deck_order.proofs.Ends.{entered_goes_on, then_goes_on}
 use Rattle.deck_order.proofs.listing.go_on.Goals as goal
 
 pub loop-walk-smaller-in-Continue-1 : goal.loop-walk-smaller-in-Continue-1

@@ -1,7 +1,7 @@
 use Rattle.std.proofs.Common.{sym, ap, ◌∙◌}
 use Rattle.deck_definitions.specs.Definitions.{shown}
 use Rattle.deck_worths.specs.Worths.{worth_at}
-use Rattle.deck_worths.proofs.Naming.{same_number}
+use Rattle.deck_graph.proofs.Graphs.{same_number}
 use Rattle.deck_worths.proofs.known.name_worth.Goals as goal
 
 pub returns-in-None : goal.returns-in-None

@@ -2,7 +2,7 @@ use Rattle.std.proofs.Common.{◌≡◌, ◌||◌, ap, ◌∙◌}
 use Rattle.std.proofs.lemmas.Result.{on_ok_weaker}
 use Rattle.drc_geom.specs.Squares.{covered}
 use Rattle.gds_path.specs.Working.Pens.{all_drawn}
-use Rattle.gds_path.proofs.Covered.{covered_append}
+use Rattle.drc_geom.proofs.Covered.{covered_append}
 use Rattle.gds_path.proofs.Paths.{all_drawn_is}
 use Rattle.gds_path.proofs.rects.path_rects.Goals as goal
 

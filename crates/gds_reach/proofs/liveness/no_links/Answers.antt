@@ -1,6 +1,6 @@
 use Rattle.std.proofs.Common.{◌≡◌, ℕ, [], ◌∷◌, ◌++◌, length, sym, ap, subst, ◌∙◌, arith}
 use Rattle.gds_reach.specs.References.{Refers}
-use Rattle.gds_reach.proofs.Paths.{longer}
+use Rattle.list_facts.proofs.Slots.{longer}
 use Rattle.gds_reach.proofs.Turning.{none_more}
 use Rattle.gds_reach.proofs.liveness.no_links.Goals as goal
 

@@ -1,7 +1,8 @@
 use Rattle.std.proofs.Common.{◌≡◌, ◌↔◌, ℕ, ◌+◌, [], ◌∷◌, ◌++◌, length, Option, sym, ap, subst, ◌∙◌, arith}
 use Rattle.std.specs.Global.{Vec}
 use Rattle.gds_reach.specs.References.{named_in, IsNamed}
-use Rattle.gds_reach.proofs.Paths.{longer, named_here}
+use Rattle.list_facts.proofs.Slots.{longer}
+use Rattle.gds_reach.proofs.Paths.{named_here}
 use Rattle.gds_recursion.specs.Working.Circles.{AreUses, IsHeld}
 use Rattle.gds_recursion.proofs.Using.{all_used, none_used, uses_more}
 use Rattle.gds_recursion.proofs.uses.uses_of.Goals as goal

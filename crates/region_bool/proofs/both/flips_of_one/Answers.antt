@@ -2,7 +2,8 @@ use Rattle.std.proofs.Common.{◌≡◌, inl, inr, ◌++◌, Option, Vec, Global
 use Rattle.region_form.specs.declared.flip.Flip.{Flip}
 use Rattle.region_bool.specs.Working.Meetings.{AreOfOne, IsPassing, listed}
 use Rattle.region_form.specs.Flips.{AreSorted}
-use Rattle.region_bool.proofs.Passings.{ends, goes_on, sorted_behind}
+use Rattle.region_form.proofs.FlipOrder.{sorted_behind}
+use Rattle.region_bool.proofs.Passings.{ends, goes_on}
 use Rattle.region_bool.proofs.both.flips_of_one.Goals as goal
 use Rattle.region_bool.proofs.both.flips_of_one.Goals.{in-Some+in_ok-push, in_default-passed, in_default, in_default-2}
 
