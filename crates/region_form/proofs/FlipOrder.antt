@@ -1,5 +1,5 @@
 -- Flips in order: each stands before all behind it. And how far flips reach.
-use Rattle.std.proofs.Common.{◌≡◌, inl, inr, cond, ℤ, ◌<ℤ◌, ◌≤ℤ◌, int_le, List, [], ◌∷◌, sym, subst, ◌∙◌, arith}
+use Rattle.std.proofs.Common.{◌≡◌, inl, inr, cond, ℤ, ◌<ℤ◌, ◌≤ℤ◌, int_le, List, [], ◌∷◌, ◌++◌, sym, subst, ◌∙◌, arith}
 use Rattle.std.proofs.lemmas.Int.{ints, by_lt_z}
 use Rattle.std.specs.List.{AllByRecursion}
 use Rattle.list_facts.proofs.Members.{all_weaker}
