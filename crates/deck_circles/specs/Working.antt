@@ -1,0 +1,2 @@
+-- Working words: of the loop of this crate alone. No clause of a public function reaches them.
+pub mod Flags

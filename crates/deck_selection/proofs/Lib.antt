@@ -1,0 +1,3 @@
+mod NameSets
+mod Noting
+mod Repeating
