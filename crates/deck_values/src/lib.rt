@@ -10,7 +10,8 @@
 //!     ANGLE X == 90 }        90     check 0      a right angle
 //! ```
 //!
-//! A number of LAYER or LAYER MAP is no value, since no name and no sign stands in it: they have a list of their own.
+//! The numbers of LAYER and LAYER MAP are no values, since no name and no sign stands in them: they have a list of their
+//! own.
 #![tactic(auto)]
 
 mod bounds;

@@ -1,7 +1,6 @@
 //! The numbers of layers of the layout.
 
 ghost use Rattle.std.specs.Prelude.{◌≡◌, ◌++◌, ◌∷◌, [], IfOk, OnOk};
-ghost use Rattle.std.specs.List.{flat_map};
 ghost use Rattle.deck_values.specs.Numbers.{shown_numbers, map_numbers, statement_numbers, layer_numbers_of};
 
 use deck_tree::{Deck, LayerMap, Number, Statement};

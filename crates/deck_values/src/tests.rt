@@ -74,22 +74,31 @@ fn output(alloc: Global, layer: Layer) -> Result<Item, AllocError> {
     Ok(Item::Output(Boxed::new(alloc, layer)?))
 }
 
+// `(AREA M1 > 11 < 12)`
+fn between(alloc: Global) -> Result<Term, AllocError> {
+    let upper = Boxed::new(alloc, less(alloc, 12)?)?;
+    let limits = Limits::Above(Above::Greater, value(alloc, 11)?, Some(upper));
+    bracketed(alloc, Prefix::Area(named(alloc)?, limits))
+}
+
+// `LENGTH (AREA M1 == 13) != 14`
+fn unequal(alloc: Global) -> Result<Primary, AllocError> {
+    let exact = Prefix::Area(named(alloc)?, Limits::Equal(value(alloc, 13)?));
+    let inner = bracketed(alloc, exact)?;
+    let length = Prefix::Length(inner, Limits::NotEqual(value(alloc, 14)?));
+    Ok(Primary::Prefix(0, Boxed::new(alloc, length)?))
+}
+
 // `(AREA M1 > 11 < 12) AND LENGTH (AREA M1 == 13) != 14`
 fn limited(alloc: Global) -> Result<Layer, AllocError> {
-    let upper = Boxed::new(alloc, less(alloc, 12)?)?;
-    let between = Limits::Above(Above::Greater, value(alloc, 11)?, Some(upper));
-    let first = bracketed(alloc, Prefix::Area(named(alloc)?, between))?;
-    let exact = Prefix::Area(named(alloc)?, Limits::Equal(value(alloc, 13)?));
-    let other = Limits::NotEqual(value(alloc, 14)?);
-    let length = Prefix::Length(bracketed(alloc, exact)?, other);
     let mut more = Items::new(alloc);
     more.push(Operation {
         at: 0,
         operator: Infix::And,
-        right: Primary::Prefix(0, Boxed::new(alloc, length)?),
+        right: unequal(alloc)?,
     })?;
     Ok(Layer {
-        first: Primary::Term(first),
+        first: Primary::Term(between(alloc)?),
         more,
     })
 }
