@@ -12,7 +12,8 @@ use Rattle.deck_tree.specs.declared.name_at.NameAt.{NameAt}
 use Rattle.deck_order.specs.Uses.{used_by, AreWithin}
 use Rattle.deck_definitions.specs.declared.defined.Defined.{Defined}
 use Rattle.deck_definitions.specs.Definitions.{Entry, entry_of, shown}
-use Rattle.deck_graph.specs.Graphs.{used_names, is_for, key_of, number_for, uses_of, kept_key, AreNames, numbers}
+use Rattle.deck_graph.specs.Graphs.{used_names, is_for, key_of, number_for, uses_of, numbers}
+use Rattle.deck_graph.specs.Kept.{kept_key, AreNames}
 use Rattle.deck_graph.specs.Working.Finding.{uses_by}
 use Rattle.list_facts.proofs.Positions.{position-map, position_below}
 
@@ -56,12 +57,12 @@ found_below f n below (x ∷ xs) k j e = by (f x) refl k (found_below f n below 
     by (Some i) p (suc k) later h = later k j h
 
 -- the numbers of one of the lists
-abbrev at_or_none : List (List ℕ) → ℕ → List ℕ
+abbrev pub at_or_none : List (List ℕ) → ℕ → List ℕ
 at_or_none [] i = []
 at_or_none (v ∷ vs) zero = v
 at_or_none (v ∷ vs) (suc i) = at_or_none vs i
 
-used_at : (uses : List (Vec ℕ)) (i : ℕ) → used_by uses i ≡ at_or_none (numbers uses) i
+pub used_at : (uses : List (Vec ℕ)) (i : ℕ) → used_by uses i ≡ at_or_none (numbers uses) i
 used_at [] i = refl
 used_at (v ∷ vs) zero = refl
 used_at (v ∷ vs) (suc i) = used_at vs i

@@ -1,1 +1,4 @@
 pub mod Graphs
+mod Places
+mod Repeating
+pub mod Leading

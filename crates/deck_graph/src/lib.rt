@@ -16,6 +16,7 @@ mod naming;
 mod uses;
 
 pub use graph::{Graph, graph_of};
+pub use uses::names_in;
 
 #[cfg(test)]
 mod tests;

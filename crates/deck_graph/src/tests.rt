@@ -1,4 +1,5 @@
 use super::*;
+use deck_names::Scope;
 use deck_order::{are_within, order};
 use deck_tree::{Deck, Infix, Item, Layer, NameAt, Number, Operation, Primary, Statement, Term};
 use drc_geom::Name;
@@ -86,11 +87,26 @@ fn names_stand_for_the_first_that_is_seen(rt: HostRuntime) {
         return;
     };
     let wanted: [&[u32]; 6] = [&[1, 2], &[0], &[], &[0], &[5, 2], &[2]];
-    assert_eq!(rt; graph.uses.len(), wanted.len());
-    for (uses, those) in graph.uses.iter().zip(wanted) {
+    assert_eq!(rt; graph.uses().len(), wanted.len());
+    for (uses, those) in graph.uses().iter().zip(wanted) {
         assert!(rt; uses.as_slice() == those);
     }
-    assert_eq!(rt; graph.definitions.len(), 6);
+    assert_eq!(rt; graph.definitions().len(), 6);
+    // both M1 are seen in A, and both Z in B
+    assert!(rt; graph.repeated() == [false, false, false, false, true, true].as_slice());
+}
+
+#[test]
+fn names_are_found_from_where_they_are_seen(rt: HostRuntime) {
+    let Ok(deck) = deck(rt.alloc()) else {
+        return;
+    };
+    let Ok(graph) = graph_of(rt.alloc(), &deck) else {
+        return;
+    };
+    assert_eq!(rt; graph.find(Scope::Everywhere, b"M1"), Some(2));
+    assert_eq!(rt; graph.find(Scope::Everywhere, b"Z"), Some(5));
+    assert_eq!(rt; graph.find(Scope::Everywhere, b"U"), None);
 }
 
 // Which definitions lead back to themselves, where each use is of one of them.
@@ -115,7 +131,7 @@ fn two_that_use_each_other_lead_back(rt: HostRuntime) {
     let Ok(graph) = graph_of(rt.alloc(), &deck) else {
         return;
     };
-    match cyclic(rt.alloc(), &graph.uses) {
+    match cyclic(rt.alloc(), graph.uses()) {
         Some(flags) => assert!(rt;
             flags.as_slice() == [true, true, false, false, false, false].as_slice()
         ),

@@ -1,22 +1,21 @@
 //! What definitions use.
 
-ghost use Rattle.std.specs.Prelude.{◌≡◌, map, IfOk, OnOk};
+ghost use Rattle.std.specs.Prelude.{◌≡◌, map, IfOk};
 ghost use Rattle.std.specs.List.{filter_map};
 ghost use Rattle.deck_names.specs.Definitions.{IsPlace, stands_for};
 ghost use Rattle.deck_uses.specs.UsedNames.{shown as shown_names};
 ghost use Rattle.deck_definitions.specs.Definitions.{shown, entry_of, meaning_of};
-ghost use Rattle.deck_graph.specs.Graphs.{used_names, numbers};
+ghost use Rattle.deck_graph.specs.Graphs.{used_names, numbers, StandAtPlaces};
 ghost use Rattle.deck_graph.specs.Working.Finding.{uses_by};
 
-use crate::naming::open;
 use deck_definitions::{Body, Defined};
 use deck_names::{Names, Scope};
 use deck_tree::NameAt;
 use deck_uses::{push_layer_names, push_value_names};
 use std::alloc::{AllocError, Global};
 
-// The names that stand in what a name stands for.
-fn names_in<'d>(alloc: Global, body: Body<'d>) -> Result<Vec<&'d NameAt>, AllocError>
+/// The names that stand in what a name stands for, in the order of its text. Only want of memory is an error.
+pub fn names_in<'d>(alloc: Global, body: Body<'d>) -> Result<Vec<&'d NameAt>, AllocError>
     ensures { IfOk result (λ names. shown_names names.items ≡ used_names (meaning_of body.entry)) }
 {
     let mut names = Vec::new(alloc);
@@ -56,18 +55,17 @@ fn uses_by(alloc: Global, names: &Names<'_>, one: &Defined<'_>) -> Result<Vec<u3
     found(alloc, names, one.scope, &used)
 }
 
-/// The numbers of the definitions that each of these uses. Checks of which none of them defines a name are opened.
+/// The numbers of the definitions that each of these uses.
 pub fn all_uses(
     alloc: Global,
-    names: &mut Names<'_>,
+    names: &Names<'_>,
     definitions: &[Defined<'_>],
 ) -> Result<Vec<Vec<u32>>, AllocError>
-    ensures uses { IfOk result (λ uses. numbers uses.items ≡ map (uses_by names.old.definitions) (shown definitions.now)) }
-    ensures same { OnOk result (names.new.definitions ≡ names.old.definitions) }
+    requires { StandAtPlaces names.now.checks (shown definitions.now) }
+    ensures { IfOk result (λ uses. numbers uses.items ≡ map (uses_by names.now.definitions) (shown definitions.now)) }
 {
     let mut uses = Vec::new(alloc);
     for one in definitions {
-        open(names, one.scope)?;
         uses.push(uses_by(alloc, names, one)?)?;
     }
     Ok(uses)

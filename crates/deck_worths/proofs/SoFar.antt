@@ -23,6 +23,7 @@ use Rattle.deck_worths.specs.Worths.{IsWorth, comes_to, AreWorths, flat, worth_a
 use Rattle.deck_worths.specs.Working.SoFar.{answered, come_to, meaning_worth, IsSoFar}
 use Rattle.deck_worths.proofs.OneWorth.{from_places, same_worth}
 use Rattle.deck_worths.proofs.HaveWorths.{have_worths, at_place}
+use Rattle.deck_graph.proofs.Leading.{use_back, leads_to}
 use Rattle.deck_worths.proofs.Circles.{name_used, none_in_circles}
 
 -- ---- Worths that are there
@@ -110,8 +111,8 @@ module _ (all : List Entry) (uses : List (Vec ℕ)) (are : numbers uses ≡ map 
       known_is : (j : ℕ) (x : NameAt) → slice_get (value_names value) j ≡ Some x
           → ◌≡◌ {A = Option (Option Fraction)} (Some (Some (said x.name))) (names_at all worths scope.Everywhere x.name)
       known_is j x h =
-          let one : IsUse uses i (stands x.name) = name_used all uses are i name value there j x (stands x.name) h (finds j x h) in
-          let before = behind k i (stands x.name) at one (λ l. none_in_circles all uses are i q whole (by one l)) in
+          let one : IsUse uses i (stands x.name) = use_back all uses are i (stands x.name) (name_used all i name value there j x (stands x.name) h (finds j x h)) in
+          let before = behind k i (stands x.name) at one (λ l. none_in_circles all i q whole (leads_to all uses are (by one l))) in
           let slot = far.there before.0 (stands x.name) (said x.name) before.1 before.2 (each_is j x h) in
           ap (λ (o : Option Fraction). Some o) (sym (slot_flat worths (number_for all scope.Everywhere x.name) (stands x.name) (said x.name) (finds j x h) slot))
 

@@ -3,8 +3,6 @@
 ghost use Rattle.std.specs.Prelude.{◌≡◌, IfOk};
 ghost use Rattle.deck_tree.specs.Worths.{answer, value_worth};
 ghost use Rattle.deck_names.specs.Definitions.{IsPlace};
-ghost use Rattle.deck_definitions.specs.Definitions.{shown};
-ghost use Rattle.deck_graph.specs.Graphs.{AreNames};
 ghost use Rattle.deck_worths.specs.Worths.{names_at};
 
 use crate::known::known;
@@ -26,10 +24,9 @@ pub fn evaluate_at(
     from: Scope,
     value: &Value,
 ) -> Result<Result<Frac, Option<ValueFault>>, AllocError>
-    requires names { AreNames graph.now.names.definitions (shown graph.now.definitions.items) }
-    requires place { IsPlace graph.now.names.checks from }
+    requires { IsPlace graph.now.checks from }
     ensures { IfOk result (λ a.
-        a ≡ answer (value_worth (names_at (shown graph.now.definitions.items) worths.now from) value.now)) }
+        a ≡ answer (value_worth (names_at graph.now.definitions worths.now from) value.now)) }
 {
     let mut used = Vec::new(alloc);
     push_value_names(&mut used, value)?;

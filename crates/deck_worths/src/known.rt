@@ -6,8 +6,7 @@ ghost use Rattle.deck_tree.specs.KnownNames.{names_of};
 ghost use Rattle.deck_tree.specs.declared.name_at.NameAt.{NameAt as NameAtValue};
 ghost use Rattle.deck_names.specs.Definitions.{IsPlace};
 ghost use Rattle.deck_uses.specs.UsedNames.{shown as shown_names};
-ghost use Rattle.deck_definitions.specs.Definitions.{shown};
-ghost use Rattle.deck_graph.specs.Graphs.{AreNames, number_for};
+ghost use Rattle.deck_graph.specs.Graphs.{number_for};
 ghost use Rattle.deck_worths.specs.Worths.{names_at, worth_at};
 
 use deck_graph::Graph;
@@ -25,10 +24,9 @@ pub fn known(
     from: Scope,
     used: &[&NameAt],
 ) -> Result<Vars, AllocError>
-    requires names { AreNames graph.now.names.definitions (shown graph.now.definitions.items) }
-    requires place { IsPlace graph.now.names.checks from }
+    requires { IsPlace graph.now.checks from }
     ensures { IfOk result (λ vars.
-        AllByRecursion (λ (x : NameAtValue). names_of vars x.name ≡ names_at (shown graph.now.definitions.items) worths.now from x.name)
+        AllByRecursion (λ (x : NameAtValue). names_of vars x.name ≡ names_at graph.now.definitions worths.now from x.name)
         (shown_names used.now)) }
 {
     let mut vars = Vars::new(alloc);
@@ -41,11 +39,10 @@ pub fn known(
 
 /// The worth of the definition for which a name stands at a place, if it stands for one and that has one.
 fn name_worth(graph: &Graph<'_>, worths: &[Option<Frac>], from: Scope, name: &[u8]) -> Option<Frac>
-    requires names { AreNames graph.now.names.definitions (shown graph.now.definitions.items) }
-    requires place { IsPlace graph.now.names.checks from }
-    ensures { result ≡ worth_at worths.now (number_for (shown graph.now.definitions.items) from name.now) }
+    requires { IsPlace graph.now.checks from }
+    ensures { result ≡ worth_at worths.now (number_for graph.now.definitions from name.now) }
 {
-    match graph.names.find(from, name) {
+    match graph.find(from, name) {
         None => None,
         Some(number) => worth_of(worths, number),
     }

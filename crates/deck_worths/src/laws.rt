@@ -1,17 +1,15 @@
 //! The laws of worths. Each is a statement, and does nothing when it is called.
 
-ghost use Rattle.std.specs.Prelude.{◌≡◌, ◌⊎◌, ◌∷◌, ℕ, List, map, Ok, Err};
-ghost use Rattle.std.specs.Global.{Vec};
+ghost use Rattle.std.specs.Prelude.{◌≡◌, ◌⊎◌, ◌∷◌, ℕ, List, Ok, Err};
 ghost use Rattle.std.specs.List.{AllByRecursion};
 ghost use Rattle.drc_num.specs.Fractions.{Fraction};
 ghost use Rattle.deck_tree.specs.Names.{Names};
 ghost use Rattle.deck_tree.specs.Worths.{value_worth};
 ghost use Rattle.deck_tree.specs.declared.value.Value.{Value};
 ghost use Rattle.deck_tree.specs.declared.value_fault.ValueFault.{ValueFault};
-ghost use Rattle.deck_order.specs.Uses.{Leads};
 ghost use Rattle.deck_uses.specs.UsedNames.{value_names};
 ghost use Rattle.deck_definitions.specs.Definitions.{Entry};
-ghost use Rattle.deck_graph.specs.Graphs.{numbers, uses_of};
+ghost use Rattle.deck_graph.specs.Graphs.{LeadsTo};
 ghost use Rattle.deck_worths.specs.Worths.{HasWorth, IsWorth};
 
 /// A definition is worth one number at most.
@@ -21,8 +19,7 @@ pub fn one_worth()
 
 /// A definition that leads back to itself is worth nothing.
 pub fn none_in_circles()
-    ensures { (all : List Entry) (uses : List (Vec ℕ)) → numbers uses ≡ map (uses_of all) all
-        → (i : ℕ) (q : Fraction) → IsWorth all i q → Leads uses i i → ⊥ }
+    ensures { (all : List Entry) (i : ℕ) (q : Fraction) → IsWorth all i q → LeadsTo all i i → ⊥ }
 {}
 
 /// A value whose names all come to numbers comes to one, or has a fault.

@@ -1,12 +1,9 @@
 //! What definitions are worth.
 
-ghost use Rattle.std.specs.Prelude.{◌≡◌, ◌<◌, ◌^◌, length, map, IfOk};
-ghost use Rattle.deck_order.specs.Orders.{ListsEach, StandBehindUses};
-ghost use Rattle.deck_order.specs.Uses.{AreWithin};
-ghost use Rattle.deck_definitions.specs.Definitions.{shown, meaning_of, worth};
-ghost use Rattle.deck_graph.specs.Graphs.{AreNames, numbers, uses_of};
+ghost use Rattle.std.specs.Prelude.{◌≡◌, IfOk};
+ghost use Rattle.deck_definitions.specs.Definitions.{meaning_of, worth};
 ghost use Rattle.deck_worths.specs.Worths.{AreWorths};
-ghost use Rattle.deck_worths.specs.Working.SoFar.{answered, meaning_worth};
+ghost use Rattle.deck_worths.specs.Working.SoFar.{answered, meaning_worth, IsOrderOf};
 
 use crate::evaluation::evaluate_at;
 use deck_definitions::{Body, Defined};
@@ -21,13 +18,9 @@ use std::alloc::{AllocError, Global};
 /// where that has a fault or rests on what is worth nothing, and where it leads back to itself. A layer is worth nothing.
 /// Only want of memory is an error. It takes time in proportion to the deck, however long its definitions lead on.
 pub fn worths_of(alloc: Global, graph: &Graph<'_>) -> Result<Vec<Option<Frac>>, AllocError>
-    requires names { AreNames graph.now.names.definitions (shown graph.now.definitions.items) }
-    requires uses { numbers graph.now.uses.items ≡ map (uses_of (shown graph.now.definitions.items)) (shown graph.now.definitions.items) }
-    requires within { AreWithin graph.now.uses.items }
-    requires few { length graph.now.uses.items < 2 ^ 32 }
-    ensures { IfOk result (λ worths. AreWorths (shown graph.now.definitions.items) worths.items) }
+    ensures { IfOk result (λ worths. AreWorths graph.now.definitions worths.items) }
 {
-    let ordered = order(alloc, &graph.uses)?;
+    let ordered = order(alloc, graph.uses())?;
     worths_in_order(alloc, graph, &ordered.listed)
 }
 
@@ -37,16 +30,14 @@ fn worths_in_order(
     graph: &Graph<'_>,
     listed: &[u32],
 ) -> Result<Vec<Option<Frac>>, AllocError>
-    requires names { AreNames graph.now.names.definitions (shown graph.now.definitions.items) }
-    requires uses { numbers graph.now.uses.items ≡ map (uses_of (shown graph.now.definitions.items)) (shown graph.now.definitions.items) }
-    requires each { ListsEach (length graph.now.uses.items) listed.now }
-    requires behind { StandBehindUses graph.now.uses.items listed.now }
-    ensures { IfOk result (λ worths. AreWorths (shown graph.now.definitions.items) worths.items) }
+    requires { IsOrderOf graph.now.definitions listed.now }
+    ensures { IfOk result (λ worths. AreWorths graph.now.definitions worths.items) }
 {
-    let mut worths = vec![in alloc; None; graph.definitions.len()]?;
+    let definitions = graph.definitions();
+    let mut worths = vec![in alloc; None; definitions.len()]?;
     for number in listed {
         let place = *number as usize;
-        worths[place] = definition_worth(alloc, graph, &worths, &graph.definitions[place])?;
+        worths[place] = definition_worth(alloc, graph, &worths, &definitions[place])?;
     }
     Ok(worths)
 }
@@ -58,9 +49,8 @@ fn definition_worth(
     worths: &[Option<Frac>],
     one: &Defined<'_>,
 ) -> Result<Option<Frac>, AllocError>
-    requires names { AreNames graph.now.names.definitions (shown graph.now.definitions.items) }
     ensures { IfOk result (λ found.
-        found ≡ meaning_worth (shown graph.now.definitions.items) worths.now one.now.scope (meaning_of one.now.body)) }
+        found ≡ meaning_worth graph.now.definitions worths.now one.now.scope (meaning_of one.now.body)) }
 {
     match one.body {
         Body::Drawn(_) => Ok(None),
@@ -76,8 +66,7 @@ fn variable_worth(
     from: Scope,
     value: &Value,
 ) -> Result<Option<Frac>, AllocError>
-    requires names { AreNames graph.now.names.definitions (shown graph.now.definitions.items) }
-    ensures { IfOk result (λ found. found ≡ meaning_worth (shown graph.now.definitions.items) worths.now from (worth value.now)) }
+    ensures { IfOk result (λ found. found ≡ meaning_worth graph.now.definitions worths.now from (worth value.now)) }
 {
     match from {
         Scope::Check(_) => Ok(None),

@@ -6,7 +6,6 @@ use Rattle.std.specs.Borrow.{Bor}
 use Rattle.drc_num.specs.Fractions.{Fraction}
 use Rattle.deck_tree.specs.KnownNames.{names_of}
 use Rattle.deck_tree.specs.declared.name_at.NameAt.{NameAt}
-use Rattle.deck_definitions.specs.Definitions.{shown}
 use Rattle.deck_graph.specs.Graphs.{number_for}
 use Rattle.deck_worths.specs.Worths.{worth_at, names_at}
 use Rattle.deck_worths.proofs.Naming.{told_now, told_still, told_more, all_told}
@@ -14,7 +13,7 @@ use Rattle.deck_worths.proofs.known.known.Goals as goal
 
 pub loop-name-preserved : goal.loop-name-preserved
 loop-name-preserved c =
-    let all = shown c.args.graph.now.definitions.items in
+    let all = c.args.graph.now.definitions in
     let old = names_of c.loop-name.vars in
     let new = names_of c.tell.new.vars in
     let known = names_at all c.args.worths.now c.args.from in
@@ -41,5 +40,5 @@ loop-name-preserved c =
 
 pub returns : goal.returns
 returns c =
-    all_told (λ (x : NameAt). names_of c.loop-name.vars x.name ≡ names_at (shown c.args.graph.now.definitions.items) c.args.worths.now c.args.from x.name) c.args.used.now
+    all_told (λ (x : NameAt). names_of c.loop-name.vars x.name ≡ names_at c.args.graph.now.definitions c.args.worths.now c.args.from x.name) c.args.used.now
     (λ k x e. let w = slice_get_within c.args.used.now k x e in let t = c.loop-name-test.false in c.loop-name.invariant.1 k x (omega (arith, w, t)) e)

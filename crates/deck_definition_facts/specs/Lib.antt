@@ -1,0 +1,2 @@
+pub mod DefinitionFacts
+pub mod Working
