@@ -42,12 +42,12 @@ fn value(alloc: Global, at: u64, text: &[u8]) -> Result<Boxed<Value>, AllocError
     )?)
 }
 
-// A check with `Z = X`, of which the X stands at the offset, and the output `Z` behind it.
+// A check with `Z = X` and the output `Z`, of which the X and the second Z stand at the offset.
 fn check(alloc: Global, at: u64) -> Result<Statement, AllocError> {
     let mut items = Items::new(alloc);
     items.push(Item::Definition(name(alloc, 0, b"Z")?, layer(alloc, at, b"X")?))?;
     items.push(Item::Note(Name::new(alloc, b"note")?))?;
-    items.push(Item::Output(layer(alloc, at + 5, b"Z")?))?;
+    items.push(Item::Output(layer(alloc, at, b"Z")?))?;
     Ok(Statement::Check(name(alloc, 0, b"A")?, items))
 }
 
