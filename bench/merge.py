@@ -10,8 +10,11 @@ quickest run, the greatest peak of memory, and the number of results: the sides 
     column      524,288 unit squares above one another with a gap of one unit, listed from the top down
     random-1e5  100,000 rectangles with sides of 20 to 220 units anywhere in a square of four times their area
     random-1e6  1,000,000 such
+    finer-1e6   the same with sides and coordinates ten times as large
     rows-64     100,000 rectangles, 64 to a row, each with sides of 20 to 219 units in a cell of 300
+    rows-64-1e6 1,000,000 such
     comb        a back with 20,000 teeth, each of a height of its own
+    comb-250000 the same with 250,000 teeth
 """
 import functools
 import math
@@ -26,12 +29,13 @@ def column():
         yield 0, 2 * k, 1, 2 * k + 1
 
 
-def at_random(count):
+def at_random(count, times=1):
     draw = random.Random(1)
-    reach = math.isqrt(4 * count * 120 * 120)
+    reach = times * math.isqrt(4 * count * 120 * 120)
+    low, high = 20 * times, 220 * times
     for _ in range(count):
         x, y = draw.randrange(reach), draw.randrange(reach)
-        yield x, y, x + draw.randint(20, 220), y + draw.randint(20, 220)
+        yield x, y, x + draw.randint(low, high), y + draw.randint(low, high)
 
 
 def rows_of_64(count):
@@ -54,14 +58,11 @@ def draws(seed):
     return draw
 
 
-TEETH = 20_000
-
-
-def comb():
+def comb(teeth):
     draw = random.Random(1)
-    heights = list(range(1, TEETH + 1))
+    heights = list(range(1, teeth + 1))
     draw.shuffle(heights)
-    yield 0, -1000, 600 * TEETH, 0
+    yield 0, -1000, 600 * teeth, 0
     for k, height in enumerate(heights):
         yield 600 * k, -500, 600 * k + 300, 1000 * height
 
@@ -71,8 +72,11 @@ LAYOUTS = {
     "column": (column, 3, 4 * 524_288),
     "random-1e5": (functools.partial(at_random, 100_000), 3, None),
     "random-1e6": (functools.partial(at_random, 1_000_000), 1, None),
+    "finer-1e6": (functools.partial(at_random, 1_000_000, 10), 1, None),
     "rows-64": (functools.partial(rows_of_64, 100_000), 3, None),
-    "comb": (comb, 1, 0),
+    "rows-64-1e6": (functools.partial(rows_of_64, 1_000_000), 1, None),
+    "comb": (functools.partial(comb, 20_000), 1, 0),
+    "comb-250000": (functools.partial(comb, 250_000), 1, 0),
 }
 
 
